@@ -1,0 +1,14 @@
+pub mod Fault
+pub mod Unexpected
+pub mod Ask
+pub mod Source
+pub mod Refused
+pub mod Show
+pub mod Tracking
+pub mod TrackView
+pub mod Outcome
+pub mod Outside
+pub mod SteadySource
+pub mod MemoryOut
+pub mod Calls
+pub mod MemorySource

@@ -1,0 +1,43 @@
+-- What a call of a deserializer answers, beside what its source offers.
+use Rattle.std.specs.Prelude.{ℕ, pos, List, Option, Some, None, Result, Ok, Err, ◌≡◌}
+use Rattle.data_core.specs.declared.fault.Fault.{Fault}
+use Rattle.data_core.specs.Source.{Source, Offer}
+use Rattle.data_core.specs.Source as spec
+use Rattle.data_core.specs.declared.de.Scalar as code
+use Rattle.data_core.specs.declared.de.Scalar.TheVariants as scalars
+use Rattle.data_core.specs.declared.de.Shown.{Shown}
+use Rattle.data_core.specs.declared.de.Shown.TheVariants as shown
+
+-- a scalar without its width
+abbrev pub scalar_view : {T B : Type 0} → (T → List ℕ) → (B → List ℕ) → code.Scalar T B → spec.Scalar
+scalar_view text bytes (scalars.Bool b) = spec.boolean b
+scalar_view text bytes (scalars.I8 z) = spec.signed z
+scalar_view text bytes (scalars.I16 z) = spec.signed z
+scalar_view text bytes (scalars.I32 z) = spec.signed z
+scalar_view text bytes (scalars.I64 z) = spec.signed z
+scalar_view text bytes (scalars.I128 z) = spec.wide z
+scalar_view text bytes (scalars.U8 n) = spec.unsigned n
+scalar_view text bytes (scalars.U16 n) = spec.unsigned n
+scalar_view text bytes (scalars.U32 n) = spec.unsigned n
+scalar_view text bytes (scalars.U64 n) = spec.unsigned n
+scalar_view text bytes (scalars.U128 n) = spec.wide (pos n)
+scalar_view text bytes (scalars.Char c) = spec.character c
+scalar_view text bytes (scalars.Text t) = spec.text (text t)
+scalar_view text bytes (scalars.Bytes b) = spec.bytes (bytes b)
+scalar_view text bytes scalars.None = spec.none
+scalar_view text bytes scalars.Unit = spec.unit
+
+-- an error is the fault that was offered, or want of memory
+abbrev pub Refuses : Option Fault → Offer → Type 0
+Refuses None offer = Unit {0}
+Refuses (Some f) offer = offer ≡ spec.refused f
+
+module _ {D E T B : Type 0} where
+  -- the offer that was shown
+  abbrev pub shown_offer : (T → List ℕ) → (B → List ℕ) → Shown D E T B → Offer
+  shown_offer text bytes (shown.Scalar s) = spec.scalar (scalar_view text bytes s)
+
+  -- what a call shows is this offer
+  abbrev pub Shows : (T → List ℕ) → (B → List ℕ) → (E → Option Fault) → Result (Shown D E T B) E → Offer → Type 0
+  Shows text bytes fault (Ok s) offer = shown_offer text bytes s ≡ offer
+  Shows text bytes fault (Err e) offer = Refuses (fault e) offer

@@ -1,0 +1,28 @@
+//! What a reader asks a deserializer for.
+
+/// What a reader hopes for: one variant for each of serde's `deserialize_` calls that asks for a
+/// scalar. A deserializer whose format says what it holds may show something else.
+#[derive(Clone, Copy)]
+pub enum Hint<'a> {
+    Any,
+    Bool,
+    I8,
+    I16,
+    I32,
+    I64,
+    I128,
+    U8,
+    U16,
+    U32,
+    U64,
+    U128,
+    Char,
+    Str,
+    String,
+    Bytes,
+    ByteBuf,
+    Unit,
+    UnitStruct(&'a str),
+    Identifier,
+    IgnoredAny,
+}

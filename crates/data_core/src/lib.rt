@@ -1,0 +1,32 @@
+//! The traits of reading in pulled form, and the plain types that readers, deserializers and the
+//! outside share.
+#![tactic(auto)]
+
+mod calls;
+mod de;
+mod error;
+mod fault;
+mod hint;
+mod names;
+mod out;
+mod path;
+mod refusal;
+mod seed;
+mod source;
+mod text;
+mod track;
+mod unexpected;
+
+pub use de::{Deserializer, Scalar, Shown};
+pub use error::DeError;
+pub use fault::{Fault, Kind, Word};
+pub use hint::Hint;
+pub use names::Names;
+pub use out::{MemoryOut, Out};
+pub use path::{Path, Segment};
+pub use refusal::refused;
+pub use seed::DeserializeSeed;
+pub use source::{Failed, MemorySource, Source, SteadySource};
+pub use text::{BytesLike, Text, TextLike};
+pub use track::Track;
+pub use unexpected::Unexpected;

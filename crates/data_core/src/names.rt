@@ -1,0 +1,67 @@
+//! Lists of names.
+ghost use Rattle.std.specs.Prelude.{◌≡◌, ◌==◌, [], ◌∷◌, ◌++◌, length, OnOk, IfErr, option_map, slice_get};
+
+use crate::text::Text;
+use std::alloc::Global;
+use std::marker::Model;
+
+/// A list of names, as of fields, of variants or of a command line's words.
+#[derive(Drop)]
+pub struct Names {
+    names: Vec<Text>,
+}
+
+impl Model for Names {
+    ghost use Rattle.std.specs.Prelude.{ℕ, List};
+
+    ghost Value = { List (List ℕ) };
+
+    ghost view = { λ n. n.names.items };
+}
+
+impl Names {
+    /// The empty list. Takes no memory.
+    pub fn new(alloc: Global) -> Names
+        ensures { result ≡ [] }
+    {
+        Names {
+            names: Vec::new(alloc),
+        }
+    }
+
+    /// Adds a name at the end. For want of memory the name comes back.
+    pub fn push(&mut self, name: Text) -> Result<(), Text>
+        ensures ok { OnOk result (self.new ≡ self.old ++ name ∷ []) }
+        ensures err { IfErr result (λ back. (back ≡ name) × (self.new ≡ self.old)) }
+    {
+        match self.names.push(name) {
+            Ok(()) => Ok(()),
+            Err(failed) => Err(failed.value),
+        }
+    }
+
+    /// How many names there are.
+    pub fn len(&self) -> usize
+        ensures { result ≡ length self.now }
+    {
+        self.names.len()
+    }
+
+    /// Whether there is no name.
+    pub fn is_empty(&self) -> bool
+        ensures { result ≡ (length self.now == 0) }
+    {
+        self.names.is_empty()
+    }
+
+    /// The name at a place, counted from 0.
+    pub fn get(&self, place: usize) -> Option<&str>
+        ensures { option_map (λ s. s.now) result ≡ slice_get self.now place }
+    {
+        if place < self.names.len() {
+            Some(self.names[place].as_str())
+        } else {
+            None
+        }
+    }
+}
