@@ -2,6 +2,7 @@ pub mod Fault
 pub mod Unexpected
 pub mod Ask
 pub mod Source
+pub mod Node
 pub mod Refused
 pub mod Show
 pub mod Tracking

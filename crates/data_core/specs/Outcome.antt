@@ -21,6 +21,15 @@ IsRefused tracks None outcome old new = Unit {0}
 IsRefused tracks (Some f) (given a) old new = ⊥
 IsRefused tracks (Some f) (refused g path) old new = (g ≡ f) × (tracks ≡ true → old ≡ clear → HoldsPath new path)
 
+-- the same of a reader of what has no parts, which leaves every track alone
+abbrev pub AnswersErr : {A : Type 0} → Option Fault → Outcome A → Type 0
+AnswersErr None outcome = Unit {0}
+AnswersErr (Some f) outcome = outcome ≡ refused f []
+
+abbrev pub Answers : {A B E : Type 0} → (E → Option Fault) → (B → A) → Result B E → Outcome A → Type 0
+Answers fault view (Ok b) outcome = outcome ≡ given (view b)
+Answers fault view (Err e) outcome = AnswersErr (fault e) outcome
+
 -- what a reader answered is the outcome, but for want of memory
 abbrev pub Gives : {A B E : Type 0} → (E → Option Fault) → Bool → (B → A) → Result B E → Outcome A → Refusal → Refusal → Type 0
 Gives fault tracks view (Ok b) outcome old new = (outcome ≡ given (view b)) × (old ≡ clear → new ≡ clear)

@@ -1,8 +1,8 @@
 //! Lists of names.
-ghost use Rattle.std.specs.Prelude.{◌≡◌, ◌==◌, [], ◌∷◌, ◌++◌, length, OnOk, IfErr, option_map, slice_get};
+ghost use Rattle.std.specs.Prelude.{◌≡◌, ◌==◌, [], ◌∷◌, ◌++◌, length, OnOk, IfOk, IfErr, option_map, slice_get};
 
 use crate::text::Text;
-use std::alloc::Global;
+use std::alloc::{AllocError, Global};
 use std::marker::Model;
 
 /// A list of names, as of fields, of variants or of a command line's words.
@@ -63,5 +63,16 @@ impl Names {
         } else {
             None
         }
+    }
+
+    /// A copy of the list.
+    pub fn try_clone(&self, alloc: Global) -> Result<Names, AllocError>
+        ensures { IfOk result (λ n. n ≡ self.now) }
+    {
+        let mut names = Vec::new(alloc);
+        for name in &self.names {
+            names.push(name.try_clone(alloc)?)?;
+        }
+        Ok(Names { names })
     }
 }

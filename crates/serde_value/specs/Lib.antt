@@ -1,0 +1,4 @@
+pub mod View
+pub mod Deserializer
+pub mod Unexpected
+pub mod ErrorView
