@@ -1,0 +1,99 @@
+-- The first outcome of a shape over a source: its value, or the first fault with the path to it.
+use Rattle.std.specs.Prelude.{ℕ, ℤ, Bool, ◌^◌, ◌-◌, List, [], ◌∷◌, pos, negsuc, nat_le, if◌then◌else◌, encode_utf8}
+use Rattle.std.specs.Str.{chars, is_utf8}
+use Rattle.data_core.specs.declared.fault.Fault.TheVariants.{InvalidValue}
+use Rattle.data_core.specs.declared.fault.Kind.TheVariants as kind
+use Rattle.data_core.specs.Ask as ask
+use Rattle.data_core.specs.Ask.{Ask}
+use Rattle.data_core.specs.Source.{Source, Offer, scalar, offer_of}
+use Rattle.data_core.specs.Source as offer
+use Rattle.data_core.specs.Outcome.{Outcome, given, refused, not_taken}
+use Rattle.shape.specs.Shape.{Shape, boolean, u8, u16, u32, u64, i8, i16, i32, i64, character, text, bytes, unit, unit_struct, Data, boolean_data, unsigned, signed, character_data, text_data, bytes_data, unit_data}
+
+-- what a shape hopes for
+abbrev pub asks : Shape → Ask
+asks boolean = ask.boolean
+asks u8 = ask.u8
+asks u16 = ask.u16
+asks u32 = ask.u32
+asks u64 = ask.u64
+asks i8 = ask.i8
+asks i16 = ask.i16
+asks i32 = ask.i32
+asks i64 = ask.i64
+asks character = ask.character
+asks text = ask.string
+asks bytes = ask.byte_buf
+asks unit = ask.unit
+asks (unit_struct name) = ask.unit_struct name
+
+-- the boolean, and nothing else
+abbrev pub boolean_of : Offer → Outcome Data
+boolean_of (scalar (offer.boolean b)) = given (boolean_data b)
+boolean_of o = not_taken o
+
+-- an integer of up to 64 bits, from 0 up to the greatest
+abbrev pub unsigned_of : ℕ → Offer → Outcome Data
+unsigned_of greatest (scalar (offer.unsigned n)) = if nat_le n greatest then given (unsigned n) else refused (InvalidValue kind.Unsigned) []
+unsigned_of greatest (scalar (offer.signed (pos n))) = if nat_le n greatest then given (unsigned n) else refused (InvalidValue kind.Signed) []
+unsigned_of greatest (scalar (offer.signed (negsuc n))) = refused (InvalidValue kind.Signed) []
+unsigned_of greatest o = not_taken o
+
+-- from - greatest - 1 up to the greatest
+abbrev pub within : ℕ → ℤ → Bool
+within greatest (pos n) = nat_le n greatest
+within greatest (negsuc n) = nat_le n greatest
+
+-- an integer of up to 64 bits in that range
+abbrev pub signed_of : ℕ → Offer → Outcome Data
+signed_of greatest (scalar (offer.unsigned n)) = if nat_le n greatest then given (signed (pos n)) else refused (InvalidValue kind.Unsigned) []
+signed_of greatest (scalar (offer.signed z)) = if within greatest z then given (signed z) else refused (InvalidValue kind.Signed) []
+signed_of greatest o = not_taken o
+
+-- the one character of a text
+abbrev pub only_character : List ℕ → Outcome Data
+only_character (c ∷ []) = given (character_data c)
+only_character cs = refused (InvalidValue kind.Str) []
+
+-- a character, or a text of exactly one
+abbrev pub character_of : Offer → Outcome Data
+character_of (scalar (offer.character c)) = given (character_data c)
+character_of (scalar (offer.text t)) = only_character (chars t)
+character_of o = not_taken o
+
+-- a text, a character as its text, or bytes that are UTF-8
+abbrev pub text_of : Offer → Outcome Data
+text_of (scalar (offer.text t)) = given (text_data t)
+text_of (scalar (offer.character c)) = given (text_data (encode_utf8 c))
+text_of (scalar (offer.bytes b)) = if is_utf8 b then given (text_data b) else refused (InvalidValue kind.Bytes) []
+text_of o = not_taken o
+
+-- the bytes, and nothing else
+abbrev pub bytes_of : Offer → Outcome Data
+bytes_of (scalar (offer.bytes b)) = given (bytes_data b)
+bytes_of o = not_taken o
+
+-- the unit, and nothing else
+abbrev pub unit_of : Offer → Outcome Data
+unit_of (scalar offer.unit) = given unit_data
+unit_of o = not_taken o
+
+-- what a shape makes of an offer
+abbrev pub visited : Shape → Offer → Outcome Data
+visited boolean o = boolean_of o
+visited u8 o = unsigned_of (2 ^ 8 - 1) o
+visited u16 o = unsigned_of (2 ^ 16 - 1) o
+visited u32 o = unsigned_of (2 ^ 32 - 1) o
+visited u64 o = unsigned_of (2 ^ 64 - 1) o
+visited i8 o = signed_of (2 ^ 7 - 1) o
+visited i16 o = signed_of (2 ^ 15 - 1) o
+visited i32 o = signed_of (2 ^ 31 - 1) o
+visited i64 o = signed_of (2 ^ 63 - 1) o
+visited character o = character_of o
+visited text o = text_of o
+visited bytes o = bytes_of o
+visited unit o = unit_of o
+visited (unit_struct name) o = unit_of o
+
+abbrev pub first : Shape → Source → Outcome Data
+first a s = visited a (offer_of s (asks a))

@@ -1,0 +1,6 @@
+pub mod Shape
+pub mod First
+pub mod View
+pub mod Seed
+pub mod Refusals
+pub mod ShapeSeed

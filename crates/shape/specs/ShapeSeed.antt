@@ -1,0 +1,6 @@
+-- The shape that a reader reads.
+use Rattle.shape.specs.declared.data.Shape.{Shape}
+use Rattle.shape.specs.declared.seed.ShapeSeed.{ShapeSeed}
+
+abbrev pub shape_of : ShapeSeed → Shape
+shape_of s = s.shape.now

@@ -1,0 +1,34 @@
+//! Shapes, and the data that is read by them.
+
+use data_core::Text;
+
+/// What a reader is to read. It is this project's own.
+#[derive(Drop)]
+pub enum Shape {
+    Bool,
+    U8,
+    U16,
+    U32,
+    U64,
+    I8,
+    I16,
+    I32,
+    I64,
+    Char,
+    Text,
+    Bytes,
+    Unit,
+    UnitStruct(Text),
+}
+
+/// What is read by a shape. It is this project's own.
+#[derive(Drop)]
+pub enum Data {
+    Bool(bool),
+    Unsigned(u64),
+    Signed(i64),
+    Char(char),
+    Text(Text),
+    Bytes(Vec<u8>),
+    Unit,
+}

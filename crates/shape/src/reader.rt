@@ -1,0 +1,66 @@
+//! Readers by shape.
+ghost use Rattle.std.specs.Prelude.{◌≡◌};
+ghost use Rattle.data_core.specs.Ask.{ask};
+ghost use Rattle.data_core.specs.Show.{shown_offer};
+ghost use Rattle.data_core.specs.Outcome.{Gives};
+ghost use Rattle.shape.specs.First.{asks, visited};
+ghost use Rattle.shape.specs.View.{shape_view, data_view};
+
+use crate::data::{Data, Shape};
+use crate::scalars::{
+    visit_bool, visit_bytes, visit_char, visit_signed, visit_text, visit_unit, visit_unsigned,
+};
+use data_core::{Deserializer, Hint, Shown, Track};
+use std::alloc::Global;
+
+/// What a shape hopes for.
+pub fn hint(shape: &Shape) -> Hint<'_>
+    ensures { ask result ≡ asks (shape_view shape.now) }
+{
+    match shape {
+        Shape::Bool => Hint::Bool,
+        Shape::U8 => Hint::U8,
+        Shape::U16 => Hint::U16,
+        Shape::U32 => Hint::U32,
+        Shape::U64 => Hint::U64,
+        Shape::I8 => Hint::I8,
+        Shape::I16 => Hint::I16,
+        Shape::I32 => Hint::I32,
+        Shape::I64 => Hint::I64,
+        Shape::Char => Hint::Char,
+        Shape::Text => Hint::String,
+        Shape::Bytes => Hint::ByteBuf,
+        Shape::Unit => Hint::Unit,
+        Shape::UnitStruct(name) => Hint::UnitStruct(name.as_str()),
+    }
+}
+
+/// Makes data of a shape of what is shown. `track` then holds the path of a refusal, if `D` tracks
+/// and no path was held before.
+pub fn visit<D: Deserializer>(
+    alloc: Global,
+    shape: &Shape,
+    shown: Shown<D>,
+    track: &mut Track,
+) -> Result<Data, D::Error>
+    ensures { Gives D.Error.fault D.tracks data_view result
+        (visited (shape_view shape.now) (shown_offer D.Text.text D.Bytes.bytes shown))
+        track.old track.new }
+{
+    match shape {
+        Shape::Bool => visit_bool(alloc, shown),
+        Shape::U8 => visit_unsigned(alloc, shown, u64::from(u8::MAX), "u8"),
+        Shape::U16 => visit_unsigned(alloc, shown, u64::from(u16::MAX), "u16"),
+        Shape::U32 => visit_unsigned(alloc, shown, u64::from(u32::MAX), "u32"),
+        Shape::U64 => visit_unsigned(alloc, shown, u64::MAX, "u64"),
+        Shape::I8 => visit_signed(alloc, shown, i8::MAX as u64, "i8"),
+        Shape::I16 => visit_signed(alloc, shown, i16::MAX as u64, "i16"),
+        Shape::I32 => visit_signed(alloc, shown, i32::MAX as u64, "i32"),
+        Shape::I64 => visit_signed(alloc, shown, i64::MAX as u64, "i64"),
+        Shape::Char => visit_char(alloc, shown),
+        Shape::Text => visit_text(alloc, shown),
+        Shape::Bytes => visit_bytes(alloc, shown),
+        Shape::Unit => visit_unit(alloc, shown, "unit"),
+        Shape::UnitStruct(_) => visit_unit(alloc, shown, "unit struct"),
+    }
+}

@@ -1,0 +1,232 @@
+//! Readers of scalars.
+ghost use Rattle.std.specs.Prelude.{◌≡◌, ◌<◌, ◌^◌};
+ghost use Rattle.std.specs.Str.{chars};
+ghost use Rattle.data_core.specs.Source.{scalar};
+ghost use Rattle.data_core.specs.Source as offer;
+ghost use Rattle.data_core.specs.Show.{shown_offer};
+ghost use Rattle.data_core.specs.Outcome.{Answers};
+ghost use Rattle.shape.specs.First.{boolean_of, unsigned_of, signed_of, within, character_of, only_character as one_character, text_of, bytes_of, unit_of};
+ghost use Rattle.shape.specs.View.{data_view};
+
+use crate::data::Data;
+use data_core::{
+    BytesLike, DeError, Deserializer, Scalar, Shown, Text, TextLike, Unexpected, refused,
+};
+use std::alloc::Global;
+
+pub fn visit_bool<D: Deserializer>(alloc: Global, shown: Shown<D>) -> Result<Data, D::Error>
+    ensures { Answers D.Error.fault data_view result
+        (boolean_of (shown_offer D.Text.text D.Bytes.bytes shown)) }
+{
+    match shown {
+        Shown::Scalar(Scalar::Bool(b)) => Ok(Data::Bool(b)),
+        other => Err(refused(alloc, other, "bool")),
+    }
+}
+
+/// An integer from 0 up to the greatest.
+pub fn visit_unsigned<D: Deserializer>(
+    alloc: Global,
+    shown: Shown<D>,
+    greatest: u64,
+    expected: &str,
+) -> Result<Data, D::Error>
+    ensures { Answers D.Error.fault data_view result
+        (unsigned_of greatest (shown_offer D.Text.text D.Bytes.bytes shown)) }
+{
+    match shown {
+        Shown::Scalar(Scalar::U8(n)) => unsigned::<D>(alloc, u64::from(n), greatest, expected),
+        Shown::Scalar(Scalar::U16(n)) => unsigned::<D>(alloc, u64::from(n), greatest, expected),
+        Shown::Scalar(Scalar::U32(n)) => unsigned::<D>(alloc, u64::from(n), greatest, expected),
+        Shown::Scalar(Scalar::U64(n)) => unsigned::<D>(alloc, n, greatest, expected),
+        Shown::Scalar(Scalar::I8(n)) => to_unsigned::<D>(alloc, i64::from(n), greatest, expected),
+        Shown::Scalar(Scalar::I16(n)) => to_unsigned::<D>(alloc, i64::from(n), greatest, expected),
+        Shown::Scalar(Scalar::I32(n)) => to_unsigned::<D>(alloc, i64::from(n), greatest, expected),
+        Shown::Scalar(Scalar::I64(n)) => to_unsigned::<D>(alloc, n, greatest, expected),
+        other => Err(refused(alloc, other, expected)),
+    }
+}
+
+fn unsigned<D: Deserializer>(
+    alloc: Global,
+    n: u64,
+    greatest: u64,
+    expected: &str,
+) -> Result<Data, D::Error>
+    ensures { Answers D.Error.fault data_view result (unsigned_of greatest (scalar (offer.unsigned n))) }
+{
+    if n <= greatest {
+        Ok(Data::Unsigned(n))
+    } else {
+        Err(D::Error::invalid_value(alloc, Unexpected::Unsigned(n), expected))
+    }
+}
+
+fn to_unsigned<D: Deserializer>(
+    alloc: Global,
+    n: i64,
+    greatest: u64,
+    expected: &str,
+) -> Result<Data, D::Error>
+    ensures { Answers D.Error.fault data_view result (unsigned_of greatest (scalar (offer.signed n))) }
+{
+    match u64::try_from(n) {
+        Ok(m) if m <= greatest => Ok(Data::Unsigned(m)),
+        _ => Err(D::Error::invalid_value(alloc, Unexpected::Signed(n), expected)),
+    }
+}
+
+/// An integer from one below the negative of the greatest up to the greatest.
+pub fn visit_signed<D: Deserializer>(
+    alloc: Global,
+    shown: Shown<D>,
+    greatest: u64,
+    expected: &str,
+) -> Result<Data, D::Error>
+    requires { greatest < 2 ^ 63 }
+    ensures { Answers D.Error.fault data_view result
+        (signed_of greatest (shown_offer D.Text.text D.Bytes.bytes shown)) }
+{
+    match shown {
+        Shown::Scalar(Scalar::I8(n)) => signed::<D>(alloc, i64::from(n), greatest, expected),
+        Shown::Scalar(Scalar::I16(n)) => signed::<D>(alloc, i64::from(n), greatest, expected),
+        Shown::Scalar(Scalar::I32(n)) => signed::<D>(alloc, i64::from(n), greatest, expected),
+        Shown::Scalar(Scalar::I64(n)) => signed::<D>(alloc, n, greatest, expected),
+        Shown::Scalar(Scalar::U8(n)) => to_signed::<D>(alloc, u64::from(n), greatest, expected),
+        Shown::Scalar(Scalar::U16(n)) => to_signed::<D>(alloc, u64::from(n), greatest, expected),
+        Shown::Scalar(Scalar::U32(n)) => to_signed::<D>(alloc, u64::from(n), greatest, expected),
+        Shown::Scalar(Scalar::U64(n)) => to_signed::<D>(alloc, n, greatest, expected),
+        other => Err(refused(alloc, other, expected)),
+    }
+}
+
+fn signed<D: Deserializer>(
+    alloc: Global,
+    n: i64,
+    greatest: u64,
+    expected: &str,
+) -> Result<Data, D::Error>
+    ensures { Answers D.Error.fault data_view result (signed_of greatest (scalar (offer.signed n))) }
+{
+    if is_within(n, greatest) {
+        Ok(Data::Signed(n))
+    } else {
+        Err(D::Error::invalid_value(alloc, Unexpected::Signed(n), expected))
+    }
+}
+
+// Whether an integer lies between one below the negative of the greatest and the greatest.
+fn is_within(n: i64, greatest: u64) -> bool
+    ensures { result ≡ within greatest n }
+{
+    if n < 0 {
+        n.unsigned_abs() - 1 <= greatest
+    } else {
+        n.unsigned_abs() <= greatest
+    }
+}
+
+fn to_signed<D: Deserializer>(
+    alloc: Global,
+    n: u64,
+    greatest: u64,
+    expected: &str,
+) -> Result<Data, D::Error>
+    requires { greatest < 2 ^ 63 }
+    ensures { Answers D.Error.fault data_view result (signed_of greatest (scalar (offer.unsigned n))) }
+{
+    if n <= greatest {
+        Ok(Data::Signed(n as i64))
+    } else {
+        Err(D::Error::invalid_value(alloc, Unexpected::Unsigned(n), expected))
+    }
+}
+
+pub fn visit_char<D: Deserializer>(alloc: Global, shown: Shown<D>) -> Result<Data, D::Error>
+    ensures { Answers D.Error.fault data_view result
+        (character_of (shown_offer D.Text.text D.Bytes.bytes shown)) }
+{
+    match shown {
+        Shown::Scalar(Scalar::Char(c)) => Ok(Data::Char(c)),
+        Shown::Scalar(Scalar::Text(text)) => only_character::<D>(alloc, text.as_str()),
+        other => Err(refused(alloc, other, "char")),
+    }
+}
+
+// The one character of a text.
+fn only_character<D: Deserializer>(alloc: Global, text: &str) -> Result<Data, D::Error>
+    ensures { Answers D.Error.fault data_view result (one_character (chars text.now)) }
+{
+    let mut characters = text.chars();
+    match (characters.next(), characters.next()) {
+        (Some(c), None) => Ok(Data::Char(c)),
+        _ => Err(D::Error::invalid_value(alloc, Unexpected::Str(text), "char")),
+    }
+}
+
+pub fn visit_text<D: Deserializer>(alloc: Global, shown: Shown<D>) -> Result<Data, D::Error>
+    ensures { Answers D.Error.fault data_view result
+        (text_of (shown_offer D.Text.text D.Bytes.bytes shown)) }
+{
+    match shown {
+        Shown::Scalar(Scalar::Text(text)) => match text.into_string(alloc) {
+            Ok(text) => Ok(Data::Text(Text::from_string(text))),
+            Err(_) => Err(D::Error::memory()),
+        },
+        Shown::Scalar(Scalar::Char(c)) => text_of_char::<D>(alloc, c),
+        Shown::Scalar(Scalar::Bytes(bytes)) => match bytes.into_vec(alloc) {
+            Ok(bytes) => text_of_bytes::<D>(alloc, bytes),
+            Err(_) => Err(D::Error::memory()),
+        },
+        other => Err(refused(alloc, other, "text")),
+    }
+}
+
+fn text_of_char<D: Deserializer>(alloc: Global, c: char) -> Result<Data, D::Error>
+    ensures { Answers D.Error.fault data_view result (text_of (scalar (offer.character c))) }
+{
+    let mut text = String::new(alloc);
+    if text.push(c).is_err() {
+        return Err(D::Error::memory());
+    }
+    Ok(Data::Text(Text::from_string(text)))
+}
+
+fn text_of_bytes<D: Deserializer>(alloc: Global, bytes: Vec<u8>) -> Result<Data, D::Error>
+    ensures { Answers D.Error.fault data_view result (text_of (scalar (offer.bytes bytes.items))) }
+{
+    match String::from_utf8(bytes) {
+        Ok(text) => Ok(Data::Text(Text::from_string(text))),
+        Err(malformed) => {
+            let bytes = malformed.into_bytes();
+            Err(D::Error::invalid_value(alloc, Unexpected::Bytes(bytes.as_slice()), "text"))
+        }
+    }
+}
+
+pub fn visit_bytes<D: Deserializer>(alloc: Global, shown: Shown<D>) -> Result<Data, D::Error>
+    ensures { Answers D.Error.fault data_view result
+        (bytes_of (shown_offer D.Text.text D.Bytes.bytes shown)) }
+{
+    match shown {
+        Shown::Scalar(Scalar::Bytes(bytes)) => match bytes.into_vec(alloc) {
+            Ok(bytes) => Ok(Data::Bytes(bytes)),
+            Err(_) => Err(D::Error::memory()),
+        },
+        other => Err(refused(alloc, other, "bytes")),
+    }
+}
+
+pub fn visit_unit<D: Deserializer>(
+    alloc: Global,
+    shown: Shown<D>,
+    expected: &str,
+) -> Result<Data, D::Error>
+    ensures { Answers D.Error.fault data_view result
+        (unit_of (shown_offer D.Text.text D.Bytes.bytes shown)) }
+{
+    match shown {
+        Shown::Scalar(Scalar::Unit) => Ok(Data::Unit),
+        other => Err(refused(alloc, other, expected)),
+    }
+}
