@@ -1,0 +1,13 @@
+use Rattle.std.proofs.Common.{rules}
+use Rattle.serde_value.specs.View.{node_view}
+use Rattle.shape.specs.View.{shape_view}
+use Rattle.serde_value.specs.ErrorView.{fault_of}
+use Rattle.capture.specs.FirstTree.{first_tree}
+use Rattle.capture.proofs.Agreement.{first_agrees}
+use Rattle.capture.proofs.Here.{refusal_here}
+use Rattle.capture.proofs.reader.read_tree.Goals as goal
+
+pub returns-in-Err : goal.returns-in-Err
+returns-in-Err c =
+    let answers = rw (c.new-d.ensures, first_agrees) at c.in-Err.ensures in
+    refusal_here c.refusal.result (fault_of c.in-Err.error) _ answers c.refusal.ensures

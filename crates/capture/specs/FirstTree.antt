@@ -1,0 +1,82 @@
+-- The first outcome of a shape over a tree, with no word of sources: its value, or the first fault
+-- with the path to it.
+use Rattle.std.specs.Prelude.{ℕ, ℤ, ◌^◌, ◌-◌, [], pos, negsuc, nat_le, if◌then◌else◌, Option, Some, None, encode_utf8}
+use Rattle.std.specs.Str.{chars, is_utf8}
+use Rattle.data_core.specs.declared.fault.Fault.TheVariants.{InvalidType, InvalidValue}
+use Rattle.data_core.specs.declared.fault.Kind.{Kind}
+use Rattle.data_core.specs.declared.fault.Kind.TheVariants as kind
+use Rattle.data_core.specs.Node.{Node}
+use Rattle.data_core.specs.Node as node
+use Rattle.data_core.specs.Outcome.{Outcome, given, refused}
+use Rattle.shape.specs.Shape.{Shape, boolean, u8, u16, u32, u64, i8, i16, i32, i64, character, text, bytes, unit, unit_struct, Data, boolean_data, unsigned, signed, character_data, text_data, bytes_data, unit_data}
+use Rattle.shape.specs.First.{within, only_character}
+
+-- the kind that a node has of itself
+abbrev pub own : Node → Kind
+own (node.boolean b) = kind.Bool
+own (node.u8 n) = kind.Unsigned
+own (node.u16 n) = kind.Unsigned
+own (node.u32 n) = kind.Unsigned
+own (node.u64 n) = kind.Unsigned
+own (node.i8 z) = kind.Signed
+own (node.i16 z) = kind.Signed
+own (node.i32 z) = kind.Signed
+own (node.i64 z) = kind.Signed
+own (node.character c) = kind.Char
+own (node.string t) = kind.Str
+own node.unit = kind.Unit
+own (node.bytes b) = kind.Bytes
+
+-- the kind that a reader sees: a character's is that of its text
+abbrev pub seen : Node → Kind
+seen (node.character c) = kind.Str
+seen t = own t
+
+abbrev pub refused_as_itself : Node → Outcome Data
+refused_as_itself t = refused (InvalidType (seen t)) []
+
+abbrev pub out_of_range : Node → Outcome Data
+out_of_range t = refused (InvalidValue (own t)) []
+
+-- the integer that a node holds, if it holds one
+abbrev pub integer_in : Node → Option ℤ
+integer_in (node.u8 n) = Some (pos n)
+integer_in (node.u16 n) = Some (pos n)
+integer_in (node.u32 n) = Some (pos n)
+integer_in (node.u64 n) = Some (pos n)
+integer_in (node.i8 z) = Some z
+integer_in (node.i16 z) = Some z
+integer_in (node.i32 z) = Some z
+integer_in (node.i64 z) = Some z
+integer_in t = None
+
+-- an integer from 0 up to the greatest
+abbrev pub unsigned_up_to : ℕ → Node → Option ℤ → Outcome Data
+unsigned_up_to greatest t (Some (pos n)) = if nat_le n greatest then given (unsigned n) else out_of_range t
+unsigned_up_to greatest t (Some (negsuc n)) = out_of_range t
+unsigned_up_to greatest t None = refused_as_itself t
+
+-- an integer from - greatest - 1 up to the greatest
+abbrev pub signed_up_to : ℕ → Node → Option ℤ → Outcome Data
+signed_up_to greatest t (Some z) = if within greatest z then given (signed z) else out_of_range t
+signed_up_to greatest t None = refused_as_itself t
+
+abbrev pub first_tree : Shape → Node → Outcome Data
+first_tree boolean (node.boolean b) = given (boolean_data b)
+first_tree u8 t = unsigned_up_to (2 ^ 8 - 1) t (integer_in t)
+first_tree u16 t = unsigned_up_to (2 ^ 16 - 1) t (integer_in t)
+first_tree u32 t = unsigned_up_to (2 ^ 32 - 1) t (integer_in t)
+first_tree u64 t = unsigned_up_to (2 ^ 64 - 1) t (integer_in t)
+first_tree i8 t = signed_up_to (2 ^ 7 - 1) t (integer_in t)
+first_tree i16 t = signed_up_to (2 ^ 15 - 1) t (integer_in t)
+first_tree i32 t = signed_up_to (2 ^ 31 - 1) t (integer_in t)
+first_tree i64 t = signed_up_to (2 ^ 63 - 1) t (integer_in t)
+first_tree character (node.character c) = given (character_data c)
+first_tree character (node.string t) = only_character (chars t)
+first_tree text (node.string t) = given (text_data t)
+first_tree text (node.character c) = given (text_data (encode_utf8 c))
+first_tree text (node.bytes b) = if is_utf8 b then given (text_data b) else out_of_range (node.bytes b)
+first_tree bytes (node.bytes b) = given (bytes_data b)
+first_tree unit node.unit = given unit_data
+first_tree (unit_struct name) node.unit = given unit_data
+first_tree s t = refused_as_itself t

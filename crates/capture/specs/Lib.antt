@@ -1,0 +1,4 @@
+pub mod Input
+pub mod FirstTree
+pub mod First
+pub mod Reads

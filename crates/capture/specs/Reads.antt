@@ -1,0 +1,24 @@
+-- What a reading hands out, beside the first outcome.
+use Rattle.std.specs.Prelude.{◌≡◌, [], Option, Some, None, Result, Ok, Err}
+use Rattle.data_core.specs.declared.fault.Fault.{Fault}
+use Rattle.data_core.specs.Outcome.{Outcome, given, refused}
+use Rattle.shape.specs.Shape as spec
+use Rattle.shape.specs.View.{data_view}
+use Rattle.shape.specs.declared.data.Data.{Data}
+use Rattle.capture.specs.declared.reader.ReadError.{ReadError}
+use Rattle.capture.specs.declared.reader.ReadError.TheVariants.{Memory, Refused}
+
+-- an error is the outcome's fault at its path; want of memory says nothing
+abbrev pub IsRefusal : ReadError → Outcome spec.Data → Type 0
+IsRefusal Memory outcome = Unit {0}
+IsRefusal (Refused path fault) outcome = outcome ≡ refused fault path
+
+-- an error was made of this fault, at the empty path, or of none for want of memory
+abbrev pub IsRefusalHere : ReadError → Option Fault → Type 0
+IsRefusalHere Memory fault = fault ≡ None
+IsRefusalHere (Refused path fault) given_fault = (path ≡ []) × (given_fault ≡ Some fault)
+
+-- the outcome, handed out whole, but for want of memory
+abbrev pub Hands : Result Data ReadError → Outcome spec.Data → Type 0
+Hands (Ok d) outcome = outcome ≡ given (data_view d)
+Hands (Err e) outcome = IsRefusal e outcome

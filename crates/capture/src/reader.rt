@@ -1,0 +1,66 @@
+//! Reading of an input under a shape.
+ghost use Rattle.data_core.specs.Outcome.{Answers};
+ghost use Rattle.shape.specs.First.{first as first_source};
+ghost use Rattle.shape.specs.View.{shape_view, data_view};
+ghost use Rattle.serde_value.specs.View.{node_view};
+ghost use Rattle.serde_value.specs.ErrorView.{fault_of};
+ghost use Rattle.capture.specs.Input.{input_view};
+ghost use Rattle.capture.specs.First.{first};
+ghost use Rattle.capture.specs.FirstTree.{first_tree};
+ghost use Rattle.capture.specs.Reads.{Hands, IsRefusalHere};
+
+use crate::input::Input;
+use data_core::{DeError, DeserializeSeed, Deserializer, Fault, Path, Track};
+use serde_value::{DeserializerError, Value, ValueDeserializer};
+use shape::{Data, Shape, ShapeSeed};
+use std::alloc::Global;
+
+/// Why an input was not read. It is this project's own.
+#[derive(Drop)]
+pub enum ReadError {
+    /// There was no memory for it, which says nothing of the input.
+    Memory,
+    /// The input was refused: why, and at which of its parts.
+    Refused { path: Path, fault: Fault },
+}
+
+/// Reads an input under a shape: its value, or the first fault in reading order with the path to
+/// the refused part.
+pub fn read(alloc: Global, shape: &Shape, input: Input) -> Result<Data, ReadError>
+    ensures { Hands result (first (shape_view shape.now) (input_view input)) }
+{
+    match input {
+        Input::Tree(value) => read_tree(alloc, shape, value),
+    }
+}
+
+fn read_tree(alloc: Global, shape: &Shape, value: Value) -> Result<Data, ReadError>
+    ensures { Hands result (first_tree (shape_view shape.now) (node_view value)) }
+{
+    let d: ValueDeserializer<DeserializerError> = ValueDeserializer::new(alloc, value);
+    match read_scalar(alloc, shape, d) {
+        Ok(data) => Ok(data),
+        Err(error) => Err(refusal(alloc, error)),
+    }
+}
+
+// The value of a scalar shape, or the error that refuses it where it stands.
+fn read_scalar<D: Deserializer>(alloc: Global, shape: &Shape, d: D) -> Result<Data, D::Error>
+    ensures { Answers D.Error.fault data_view result (first_source (shape_view shape.now) (D.source d)) }
+{
+    let mut track = Track::new(alloc);
+    ShapeSeed::new(shape).deserialize(alloc, d, &mut track)
+}
+
+// The error at the empty path.
+fn refusal(alloc: Global, error: DeserializerError) -> ReadError
+    ensures { IsRefusalHere result (fault_of error) }
+{
+    match error.into_fault() {
+        Some(fault) => ReadError::Refused {
+            path: Path::new(alloc),
+            fault,
+        },
+        None => ReadError::Memory,
+    }
+}
