@@ -1,3 +1,4 @@
+pub mod Only
 pub mod Fault
 pub mod Unexpected
 pub mod Ask

@@ -27,6 +27,6 @@ pub use path::{Path, Segment};
 pub use refusal::refused;
 pub use seed::DeserializeSeed;
 pub use source::{Failed, MemorySource, Source, SteadySource};
-pub use text::{BytesLike, Text, TextLike};
+pub use text::{BytesLike, Text, TextLike, only_char};
 pub use track::Track;
 pub use unexpected::Unexpected;

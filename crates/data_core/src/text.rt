@@ -1,5 +1,7 @@
 //! Texts and bytes, owned or lent.
 ghost use Rattle.std.specs.Prelude.{ℕ, ◌≡◌, List, IfOk, string_bytes};
+ghost use Rattle.std.specs.Str.{chars};
+ghost use Rattle.data_core.specs.Only.{only};
 
 use std::alloc::{AllocError, Global};
 use std::marker::Model;
@@ -54,6 +56,17 @@ impl Text {
         ensures { IfOk result (λ t. t ≡ self.now) }
     {
         Text::new(alloc, self.text.as_str())
+    }
+}
+
+/// The character of a text of exactly one.
+pub fn only_char(text: &str) -> Option<char>
+    ensures { result ≡ only (chars text.now) }
+{
+    let mut characters = text.chars();
+    match (characters.next(), characters.next()) {
+        (Some(c), None) => Some(c),
+        _ => None,
     }
 }
 

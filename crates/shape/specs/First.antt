@@ -1,8 +1,9 @@
 -- The first outcome of a shape over a source: its value, or the first fault with the path to it.
-use Rattle.std.specs.Prelude.{ℕ, ℤ, Bool, ◌^◌, ◌-◌, List, [], ◌∷◌, pos, negsuc, nat_le, if◌then◌else◌, encode_utf8}
+use Rattle.std.specs.Prelude.{ℕ, ℤ, Bool, ◌^◌, ◌-◌, [], Option, Some, None, pos, negsuc, nat_le, if◌then◌else◌, encode_utf8}
 use Rattle.std.specs.Str.{chars, is_utf8}
 use Rattle.data_core.specs.declared.fault.Fault.TheVariants.{InvalidValue}
 use Rattle.data_core.specs.declared.fault.Kind.TheVariants as kind
+use Rattle.data_core.specs.Only.{only}
 use Rattle.data_core.specs.Ask as ask
 use Rattle.data_core.specs.Ask.{Ask}
 use Rattle.data_core.specs.Source.{Source, Offer, scalar, offer_of}
@@ -50,15 +51,15 @@ signed_of greatest (scalar (offer.unsigned n)) = if nat_le n greatest then given
 signed_of greatest (scalar (offer.signed z)) = if within greatest z then given (signed z) else refused (InvalidValue kind.Signed) []
 signed_of greatest o = not_taken o
 
--- the one character of a text
-abbrev pub only_character : List ℕ → Outcome Data
-only_character (c ∷ []) = given (character_data c)
-only_character cs = refused (InvalidValue kind.Str) []
+-- the character of a text, where it has exactly one
+abbrev pub character_from : Option ℕ → Outcome Data
+character_from (Some c) = given (character_data c)
+character_from None = refused (InvalidValue kind.Str) []
 
 -- a character, or a text of exactly one
 abbrev pub character_of : Offer → Outcome Data
 character_of (scalar (offer.character c)) = given (character_data c)
-character_of (scalar (offer.text t)) = only_character (chars t)
+character_of (scalar (offer.text t)) = character_from (only (chars t))
 character_of o = not_taken o
 
 -- a text, a character as its text, or bytes that are UTF-8

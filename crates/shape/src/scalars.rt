@@ -1,16 +1,15 @@
 //! Readers of scalars.
 ghost use Rattle.std.specs.Prelude.{◌≡◌, ◌<◌, ◌^◌};
-ghost use Rattle.std.specs.Str.{chars};
 ghost use Rattle.data_core.specs.Source.{scalar};
 ghost use Rattle.data_core.specs.Source as offer;
 ghost use Rattle.data_core.specs.Show.{shown_offer};
 ghost use Rattle.data_core.specs.Outcome.{Answers};
-ghost use Rattle.shape.specs.First.{boolean_of, unsigned_of, signed_of, within, character_of, only_character as one_character, text_of, bytes_of, unit_of};
+ghost use Rattle.shape.specs.First.{boolean_of, unsigned_of, signed_of, within, character_of, text_of, bytes_of, unit_of};
 ghost use Rattle.shape.specs.View.{data_view};
 
 use crate::data::Data;
 use data_core::{
-    BytesLike, DeError, Deserializer, Scalar, Shown, Text, TextLike, Unexpected, refused,
+    BytesLike, DeError, Deserializer, Scalar, Shown, Text, TextLike, Unexpected, only_char, refused,
 };
 use std::alloc::Global;
 
@@ -148,19 +147,17 @@ pub fn visit_char<D: Deserializer>(alloc: Global, shown: Shown<D>) -> Result<Dat
 {
     match shown {
         Shown::Scalar(Scalar::Char(c)) => Ok(Data::Char(c)),
-        Shown::Scalar(Scalar::Text(text)) => only_character::<D>(alloc, text.as_str()),
+        Shown::Scalar(Scalar::Text(text)) => char_of_text::<D>(alloc, text.as_str()),
         other => Err(refused(alloc, other, "char")),
     }
 }
 
-// The one character of a text.
-fn only_character<D: Deserializer>(alloc: Global, text: &str) -> Result<Data, D::Error>
-    ensures { Answers D.Error.fault data_view result (one_character (chars text.now)) }
+fn char_of_text<D: Deserializer>(alloc: Global, text: &str) -> Result<Data, D::Error>
+    ensures { Answers D.Error.fault data_view result (character_of (scalar (offer.text text.now))) }
 {
-    let mut characters = text.chars();
-    match (characters.next(), characters.next()) {
-        (Some(c), None) => Ok(Data::Char(c)),
-        _ => Err(D::Error::invalid_value(alloc, Unexpected::Str(text), "char")),
+    match only_char(text) {
+        Some(c) => Ok(Data::Char(c)),
+        None => Err(D::Error::invalid_value(alloc, Unexpected::Str(text), "char")),
     }
 }
 
