@@ -1,14 +1,14 @@
 -- A scalar is refused where it stands.
-use Rattle.std.proofs.Common.{◌≡◌, ℕ, ℤ, Bool, true, false, pos, negsuc, List, [], ◌∷◌, refl, Option, Some, None, Result, Ok, Err, nat_le, cond}
+use Rattle.std.proofs.Common.{◌≡◌, ℕ, Bool, true, false, pos, negsuc, [], refl, Option, Some, None, Result, Ok, Err, nat_le, cond}
 use Rattle.std.specs.Str.{chars, is_utf8}
+use Rattle.data_core.specs.Only.{only}
 use Rattle.data_core.specs.declared.fault.Fault.{Fault}
-use Rattle.data_core.specs.declared.path.Segment.{Segment}
 use Rattle.data_core.specs.Source.{Source, Offer, scalar, offer_of}
 use Rattle.data_core.specs.Source as offer
 use Rattle.data_core.specs.Tracking.{Refusal}
 use Rattle.data_core.specs.Outcome.{Outcome, given, refused, Among, RefusedAmong, Answers, AnswersErr}
 use Rattle.shape.specs.Shape.{Shape, Data, boolean, u8, u16, u32, u64, i8, i16, i32, i64, character, text, bytes, unit, unit_struct}
-use Rattle.shape.specs.First.{visited, boolean_of, unsigned_of, signed_of, within, character_of, only_character, text_of, bytes_of, unit_of}
+use Rattle.shape.specs.First.{visited, boolean_of, unsigned_of, signed_of, within, character_of, character_from, text_of, bytes_of, unit_of}
 use Rattle.shape.specs.Seed.{IsOutcome}
 use Rattle.shape.specs.View.{data_view}
 use Rattle.shape.specs.declared.data.Data as code
@@ -25,10 +25,9 @@ cond_here : (b : Bool) (d : Data) (f : Fault) → IsHere (cond b (given d) (refu
 cond_here true d f = tt
 cond_here false d f = refl
 
-only_here : (cs : List ℕ) → IsHere (only_character cs)
-only_here [] = refl
-only_here (c ∷ []) = tt
-only_here (c ∷ d ∷ cs) = refl
+from_here : (c : Option ℕ) → IsHere (character_from c)
+from_here None = refl
+from_here (Some c) = tt
 
 boolean_here : (o : Offer) → IsHere (boolean_of o)
 boolean_here (offer.refused f) = refl
@@ -50,7 +49,7 @@ signed_here greatest (scalar s) = refl
 
 character_here : (o : Offer) → IsHere (character_of o)
 character_here (scalar (offer.character c)) = tt
-character_here (scalar (offer.text t)) = only_here (chars t)
+character_here (scalar (offer.text t)) = from_here (only (chars t))
 character_here (offer.refused f) = refl
 character_here (scalar s) = refl
 

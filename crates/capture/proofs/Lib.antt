@@ -1,2 +1,5 @@
 pub mod Agreement
 pub mod Here
+pub mod SoleMember
+pub mod Numbers
+pub mod Documents

@@ -5,11 +5,12 @@ use Rattle.std.specs.Str.{chars, is_utf8}
 use Rattle.data_core.specs.declared.fault.Fault.TheVariants.{InvalidType, InvalidValue}
 use Rattle.data_core.specs.declared.fault.Kind.{Kind}
 use Rattle.data_core.specs.declared.fault.Kind.TheVariants as kind
+use Rattle.data_core.specs.Only.{only}
 use Rattle.data_core.specs.Node.{Node}
 use Rattle.data_core.specs.Node as node
 use Rattle.data_core.specs.Outcome.{Outcome, given, refused}
 use Rattle.shape.specs.Shape.{Shape, boolean, u8, u16, u32, u64, i8, i16, i32, i64, character, text, bytes, unit, unit_struct, Data, boolean_data, unsigned, signed, character_data, text_data, bytes_data, unit_data}
-use Rattle.shape.specs.First.{within, only_character}
+use Rattle.shape.specs.First.{within, character_from}
 
 -- the kind that a node has of itself
 abbrev pub own : Node → Kind
@@ -72,7 +73,7 @@ first_tree i16 t = signed_up_to (2 ^ 15 - 1) t (integer_in t)
 first_tree i32 t = signed_up_to (2 ^ 31 - 1) t (integer_in t)
 first_tree i64 t = signed_up_to (2 ^ 63 - 1) t (integer_in t)
 first_tree character (node.character c) = given (character_data c)
-first_tree character (node.string t) = only_character (chars t)
+first_tree character (node.string t) = character_from (only (chars t))
 first_tree text (node.string t) = given (text_data t)
 first_tree text (node.character c) = given (text_data (encode_utf8 c))
 first_tree text (node.bytes b) = if is_utf8 b then given (text_data b) else out_of_range (node.bytes b)

@@ -2,3 +2,5 @@ pub mod Input
 pub mod FirstTree
 pub mod First
 pub mod Reads
+pub mod Words
+pub mod Document

@@ -1,8 +1,11 @@
 //! Reading under a shape, and the command line that reads a document and writes the answer.
 #![tactic(auto)]
 
+mod document;
 mod input;
+mod members;
 mod reader;
+mod words;
 
 pub use input::Input;
 pub use reader::{ReadError, read};

@@ -1,8 +1,4 @@
-use Rattle.std.proofs.Common.{rules}
-use Rattle.serde_value.specs.View.{node_view}
-use Rattle.shape.specs.View.{shape_view}
 use Rattle.serde_value.specs.ErrorView.{fault_of}
-use Rattle.capture.specs.FirstTree.{first_tree}
 use Rattle.capture.proofs.Agreement.{first_agrees}
 use Rattle.capture.proofs.Here.{refusal_here}
 use Rattle.capture.proofs.reader.read_tree.Goals as goal
