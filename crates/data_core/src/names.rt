@@ -1,5 +1,5 @@
 //! Lists of names.
-ghost use Rattle.std.specs.Prelude.{◌≡◌, ◌==◌, [], ◌∷◌, ◌++◌, length, OnOk, IfErr, option_map, slice_get};
+ghost use Rattle.std.specs.Prelude.{◌≡◌, ◌==◌, ◌↔◌, [], ◌∷◌, ◌++◌, length, take, Contains, OnOk, IfErr, IfSome, IsNone, option_map, slice_get};
 
 use crate::text::Text;
 use std::alloc::Global;
@@ -63,5 +63,19 @@ impl Names {
         } else {
             None
         }
+    }
+
+    /// The first place of a name, counted from 0.
+    pub fn find(&self, name: &str) -> Option<usize>
+        ensures found { IfSome result (λ place. slice_get self.now place ≡ Some name.now) }
+        ensures first { IfSome result (λ place. ¬ Contains (take place self.now) name.now) }
+        ensures missing { IsNone result ↔ ¬ Contains self.now name.now }
+    {
+        for (place, text) in self.names.iter().enumerate() {
+            if text.as_str() == name {
+                return Some(place);
+            }
+        }
+        None
     }
 }
