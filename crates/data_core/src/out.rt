@@ -109,3 +109,28 @@ impl Out for MemoryOut {
         Ok(n)
     }
 }
+
+/// A sink that takes every piece whole, keeps nothing and never fails.
+#[derive(Clone, Copy, Default)]
+pub struct NullOut;
+
+impl NullOut {
+    /// The sink. Takes no memory.
+    pub fn new() -> NullOut {
+        NullOut
+    }
+}
+
+impl Out for NullOut {
+    ghost use Rattle.std.specs.Prelude.{None, Ok};
+
+    ghost taken = { λ _. None };
+
+    ghost faults = { λ _. 0 };
+
+    fn write(&mut self, from: &[u8]) -> Result<usize, Failed>
+        ensures { result ≡ Ok (length from.now) }
+    {
+        Ok(from.len())
+    }
+}
