@@ -1,5 +1,5 @@
 //! Paths from a value to a part of it.
-ghost use Rattle.std.specs.Prelude.{◌≡◌, [], reverse};
+ghost use Rattle.std.specs.Prelude.{◌≡◌, ◌==◌, [], ◌∷◌, ◌++◌, length, reverse, OnOk, IfErr};
 
 use crate::text::Text;
 use std::alloc::Global;
@@ -41,6 +41,38 @@ impl Path {
         Path {
             segments: Vec::new(alloc),
         }
+    }
+
+    /// Adds a step at the end. For want of memory the step comes back.
+    pub fn push(&mut self, segment: Segment) -> Result<(), Segment>
+        ensures ok { OnOk result (self.new ≡ self.old ++ segment ∷ []) }
+        ensures err { IfErr result (λ back. (back ≡ segment) × (self.new ≡ self.old)) }
+    {
+        match self.segments.push(segment) {
+            Ok(()) => Ok(()),
+            Err(failed) => Err(failed.value),
+        }
+    }
+
+    /// How many steps there are.
+    pub fn len(&self) -> usize
+        ensures { result ≡ length self.now }
+    {
+        self.segments.len()
+    }
+
+    /// Whether there is no step.
+    pub fn is_empty(&self) -> bool
+        ensures { result ≡ (length self.now == 0) }
+    {
+        self.segments.is_empty()
+    }
+
+    /// The steps, the outermost one first.
+    pub fn as_slice(&self) -> &[Segment]
+        ensures { result.now ≡ self.now }
+    {
+        self.segments.as_slice()
     }
 
     // The same steps, the last one first.
