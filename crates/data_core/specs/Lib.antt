@@ -12,3 +12,4 @@ pub mod SteadySource
 pub mod MemoryOut
 pub mod Calls
 pub mod MemorySource
+pub mod PathText

@@ -3,6 +3,7 @@ ghost use Rattle.std.specs.Prelude.{◌≡◌, ◌==◌, [], ◌∷◌, ◌++◌
 
 use crate::text::Text;
 use std::alloc::Global;
+use std::fmt;
 use std::marker::Model;
 
 /// A step from a value to a part of it: serde_path_to_error's `Segment`.
@@ -16,6 +17,41 @@ pub enum Segment {
     Enum { variant: Text },
     /// A part whose key no path can name.
     Unknown,
+}
+
+impl fmt::Display for Segment {
+    ghost use Rattle.std.specs.Prelude.{Some};
+    ghost use Rattle.data_core.specs.PathText.{own_text};
+
+    ghost output = { λ s. Some (own_text s) };
+
+    fn fmt<W: fmt::Write>(&self, f: &mut fmt::Formatter<W>) -> fmt::Result {
+        match self {
+            Segment::Seq { index } => write!(f, "[{index}]"),
+            Segment::Map { key } => f.write_str(key.as_str()),
+            Segment::Enum { variant } => f.write_str(variant.as_str()),
+            Segment::Unknown => f.write_str("?"),
+        }
+    }
+}
+
+// A step behind another one.
+#[derive(Clone, Copy)]
+struct Later<'a>(&'a Segment);
+
+impl fmt::Display for Later<'_> {
+    ghost use Rattle.std.specs.Prelude.{Some};
+    ghost use Rattle.data_core.specs.PathText.{later_text};
+
+    ghost output = { λ s. Some (later_text s.0.now) };
+
+    fn fmt<W: fmt::Write>(&self, f: &mut fmt::Formatter<W>) -> fmt::Result {
+        let segment = self.0;
+        match segment {
+            Segment::Seq { .. } => write!(f, "{segment}"),
+            _ => write!(f, ".{segment}"),
+        }
+    }
 }
 
 /// A path, outermost step first: serde_path_to_error's `Path`.
@@ -82,5 +118,23 @@ impl Path {
         let mut segments = self.segments;
         segments.as_mut_slice().reverse();
         Path { segments }
+    }
+}
+
+impl fmt::Display for Path {
+    ghost use Rattle.std.specs.Prelude.{Some};
+    ghost use Rattle.data_core.specs.PathText.{path_text};
+
+    ghost output = { λ p. Some (path_text p) };
+
+    fn fmt<W: fmt::Write>(&self, f: &mut fmt::Formatter<W>) -> fmt::Result {
+        let [first, rest @ ..] = self.as_slice() else {
+            return f.write_str(".");
+        };
+        write!(f, "{first}")?;
+        for segment in rest {
+            write!(f, "{}", Later(segment))?;
+        }
+        Ok(())
     }
 }
