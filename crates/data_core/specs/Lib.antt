@@ -13,3 +13,5 @@ pub mod MemoryOut
 pub mod Calls
 pub mod MemorySource
 pub mod PathText
+pub mod KindName
+pub mod WordText
