@@ -79,3 +79,27 @@ impl Names {
         None
     }
 }
+
+#[cfg(test)]
+mod tests {
+    use super::*;
+    use std::test::Fail;
+
+    #[test]
+    fn finds_the_first_place(rt: HostRuntime) -> Result<(), Fail> {
+        let mut names = Names::new(rt.alloc());
+        for name in ["id", "name", "id"] {
+            names
+                .push(Text::new(rt.alloc(), name)?)
+                .ok()
+                .ok_or("no memory")?;
+        }
+        assert_eq!(rt; names.len(), 3);
+        assert_eq!(rt; names.get(1), Some("name"));
+        assert_eq!(rt; names.get(3), None);
+        for (name, want) in [("id", Some(0)), ("name", Some(1)), ("na", None)] {
+            assert_eq!(rt; names.find(name), want, "{name}");
+        }
+        Ok(())
+    }
+}

@@ -1,5 +1,6 @@
 //! Paths from a value to a part of it.
-ghost use Rattle.std.specs.Prelude.{◌≡◌, ◌==◌, [], ◌∷◌, ◌++◌, length, reverse, OnOk, IfErr};
+ghost use Rattle.std.specs.Prelude.{◌≡◌, ◌==◌, [], ◌∷◌, ◌++◌, length, reverse, OnOk, IfOk, IfErr, string_bytes};
+ghost use Rattle.data_core.specs.PathText.{path_text};
 
 use crate::text::Text;
 use std::alloc::Global;
@@ -135,6 +136,49 @@ impl fmt::Display for Path {
         for segment in rest {
             write!(f, "{}", Later(segment))?;
         }
+        Ok(())
+    }
+}
+
+#[cfg(test)]
+mod tests {
+    use super::*;
+    use std::alloc::AllocError;
+    use std::test::Fail;
+
+    // What a caller of `to_string` knows.
+    fn shown(alloc: Global, path: &Path) -> Result<String, AllocError>
+        ensures { IfOk result (λ s. string_bytes s ≡ path_text path.now) }
+    {
+        path.to_string(alloc)
+    }
+
+    #[test]
+    fn shows_each_step(rt: HostRuntime) -> Result<(), Fail> {
+        let alloc = rt.alloc();
+        let mut path = Path::new(alloc);
+        assert_eq!(rt; shown(alloc, &path)?.as_str(), ".");
+        let steps = [
+            (
+                Segment::Map {
+                    key: Text::new(alloc, "a")?,
+                },
+                "a",
+            ),
+            (Segment::Seq { index: 1 }, "a[1]"),
+            (Segment::Unknown, "a[1].?"),
+            (
+                Segment::Enum {
+                    variant: Text::new(alloc, "V")?,
+                },
+                "a[1].?.V",
+            ),
+        ];
+        for (segment, want) in steps {
+            path.push(segment).ok().ok_or("no memory")?;
+            assert_eq!(rt; shown(alloc, &path)?.as_str(), want);
+        }
+        assert_eq!(rt; path.len(), 4);
         Ok(())
     }
 }
