@@ -14,3 +14,6 @@ pub mod SteadySource
 pub mod MemoryOut
 pub mod Calls
 pub mod MemorySource
+pub mod PathText
+pub mod KindName
+pub mod WordText

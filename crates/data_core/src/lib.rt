@@ -22,7 +22,7 @@ pub use error::DeError;
 pub use fault::{Fault, Kind, Word};
 pub use hint::Hint;
 pub use names::Names;
-pub use out::{MemoryOut, Out};
+pub use out::{MemoryOut, NullOut, Out};
 pub use path::{Path, Segment};
 pub use refusal::refused;
 pub use seed::DeserializeSeed;

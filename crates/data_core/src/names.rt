@@ -1,5 +1,5 @@
 //! Lists of names.
-ghost use Rattle.std.specs.Prelude.{◌≡◌, ◌==◌, [], ◌∷◌, ◌++◌, length, OnOk, IfOk, IfErr, option_map, slice_get};
+ghost use Rattle.std.specs.Prelude.{◌≡◌, ◌==◌, ◌↔◌, [], ◌∷◌, ◌++◌, length, take, Contains, OnOk, IfOk, IfErr, IfSome, IsNone, option_map, slice_get};
 
 use crate::text::Text;
 use std::alloc::{AllocError, Global};
@@ -74,5 +74,43 @@ impl Names {
             names.push(name.try_clone(alloc)?)?;
         }
         Ok(Names { names })
+    }
+
+    /// The first place of a name, counted from 0.
+    pub fn find(&self, name: &str) -> Option<usize>
+        ensures found { IfSome result (λ place. slice_get self.now place ≡ Some name.now) }
+        ensures first { IfSome result (λ place. ¬ Contains (take place self.now) name.now) }
+        ensures missing { IsNone result ↔ ¬ Contains self.now name.now }
+    {
+        for (place, text) in self.names.iter().enumerate() {
+            if text.as_str() == name {
+                return Some(place);
+            }
+        }
+        None
+    }
+}
+
+#[cfg(test)]
+mod tests {
+    use super::*;
+    use std::test::Fail;
+
+    #[test]
+    fn finds_the_first_place(rt: HostRuntime) -> Result<(), Fail> {
+        let mut names = Names::new(rt.alloc());
+        for name in ["id", "name", "id"] {
+            names
+                .push(Text::new(rt.alloc(), name)?)
+                .ok()
+                .ok_or("no memory")?;
+        }
+        assert_eq!(rt; names.len(), 3);
+        assert_eq!(rt; names.get(1), Some("name"));
+        assert_eq!(rt; names.get(3), None);
+        for (name, want) in [("id", Some(0)), ("name", Some(1)), ("na", None)] {
+            assert_eq!(rt; names.find(name), want, "{name}");
+        }
+        Ok(())
     }
 }

@@ -109,3 +109,65 @@ impl Out for MemoryOut {
         Ok(n)
     }
 }
+
+/// A sink that takes every piece whole, keeps nothing and never fails.
+#[derive(Clone, Copy, Default)]
+pub struct NullOut;
+
+impl NullOut {
+    /// The sink. Takes no memory.
+    pub fn new() -> NullOut {
+        NullOut
+    }
+}
+
+impl Out for NullOut {
+    ghost use Rattle.std.specs.Prelude.{None, Ok};
+
+    ghost taken = { λ _. None };
+
+    ghost faults = { λ _. 0 };
+
+    fn write(&mut self, from: &[u8]) -> Result<usize, Failed>
+        ensures { result ≡ Ok (length from.now) }
+    {
+        Ok(from.len())
+    }
+}
+
+#[cfg(test)]
+mod tests {
+    use super::*;
+    use std::test::Fail;
+
+    // How many bytes a call takes.
+    fn took<O: Out>(out: &mut O, piece: &str) -> Option<usize> {
+        out.write(piece.as_bytes()).ok()
+    }
+
+    #[test]
+    fn goes_on_after_a_failure(rt: HostRuntime) -> Result<(), Fail> {
+        let mut out = MemoryOut::new(rt.alloc(), 12, 5, &[2])?;
+        let calls = [
+            ("abcdef", Some(5)),
+            ("abcdef", None),
+            ("ghi", Some(3)),
+            ("jklmno", Some(4)),
+            ("pqr", None),
+            ("", Some(0)),
+        ];
+        for (piece, want) in calls {
+            assert_eq!(rt; took(&mut out, piece), want, "{piece}");
+        }
+        assert_eq!(rt; out.bytes(), b"abcdeghijklm".as_slice());
+        Ok(())
+    }
+
+    #[test]
+    fn takes_each_piece_whole(rt: HostRuntime) {
+        let mut out = NullOut::new();
+        for (piece, want) in [("", 0), ("abc", 3)] {
+            assert_eq!(rt; took(&mut out, piece), Some(want));
+        }
+    }
+}

@@ -140,3 +140,44 @@ impl Source for MemorySource {
         self.steady.read(into)
     }
 }
+
+#[cfg(test)]
+mod tests {
+    use super::*;
+    use std::process::Abort;
+    use std::test::Fail;
+
+    // Each call has room for six bytes, and gives what is wanted.
+    fn assert_gives<S: Source>(rt: &impl Abort, source: &mut S, wanted: &[Option<&str>]) {
+        for want in wanted {
+            let mut room = [0; 6];
+            let given = match source.read(&mut room) {
+                Ok(n) => Some(&room[..n]),
+                Err(Failed) => None,
+            };
+            assert_eq!(rt; given, want.map(|text| text.as_bytes()));
+        }
+    }
+
+    #[test]
+    fn gives_a_byte_in_a_call(rt: HostRuntime) -> Result<(), Fail> {
+        let mut source = SteadySource::new(rt.alloc(), b"abc", 1)?;
+        assert_gives(
+            &rt,
+            &mut source,
+            &[Some("a"), Some("b"), Some("c"), Some("")],
+        );
+        Ok(())
+    }
+
+    #[test]
+    fn goes_on_after_a_failure(rt: HostRuntime) -> Result<(), Fail> {
+        let mut source = MemorySource::new(rt.alloc(), b"abcdefghij", 4, &[2])?;
+        assert_gives(
+            &rt,
+            &mut source,
+            &[Some("abcd"), None, Some("efgh"), Some("ij"), Some("")],
+        );
+        Ok(())
+    }
+}

@@ -143,3 +143,20 @@ impl BytesLike for &[u8] {
         Vec::from_slice(alloc, self)
     }
 }
+
+#[cfg(test)]
+mod tests {
+    use super::*;
+    use std::test::Fail;
+
+    #[test]
+    fn keeps_its_text(rt: HostRuntime) -> Result<(), Fail> {
+        for want in ["", "field", "größer"] {
+            let text = Text::new(rt.alloc(), want)?;
+            let copy = text.try_clone(rt.alloc())?;
+            assert_eq!(rt; text.as_str(), want);
+            assert_eq!(rt; copy.into_string().as_str(), want);
+        }
+        Ok(())
+    }
+}

@@ -52,3 +52,22 @@ impl<'a> Unexpected<'a> {
         }
     }
 }
+
+#[cfg(test)]
+mod tests {
+    use super::*;
+
+    #[test]
+    fn has_the_kind(rt: HostRuntime) {
+        let table = [
+            (Unexpected::Bool(true), "Bool"),
+            (Unexpected::Unsigned(1), "Unsigned"),
+            (Unexpected::Str("1"), "Str"),
+            (Unexpected::NewtypeStruct, "NewtypeStruct"),
+            (Unexpected::Other("i128"), "Other"),
+        ];
+        for (seen, want) in table {
+            assert_eq!(rt; seen.kind().as_str(), want);
+        }
+    }
+}
