@@ -1,5 +1,6 @@
 //! The error of reading a tree.
-ghost use Rattle.serde_value.specs.ErrorView.{fault_of};
+ghost use Rattle.std.specs.Prelude.{◌≡◌, None};
+ghost use Rattle.serde_value.specs.ErrorView.{fault_of, SameFault};
 
 use crate::unexpected::Unexpected;
 use data_core::{DeError, Fault, Names, Text};
@@ -18,6 +19,45 @@ pub enum DeserializerError {
     MissingField(Text),
     DuplicateField(Text),
     Memory,
+}
+
+impl DeserializerError {
+    /// The same error in another error type: serde_value's `to_error`, except that a duplicate field
+    /// stays one.
+    pub fn to_error<E: DeError>(&self, alloc: Global) -> E
+        ensures fault { SameFault (E.fault result) (fault_of self.now) }
+        ensures memory { fault_of self.now ≡ None → E.fault result ≡ None }
+    {
+        match self {
+            DeserializerError::Custom(msg) => E::custom(alloc, msg.as_str()),
+            DeserializerError::InvalidType(unexp, exp) => {
+                E::invalid_type(alloc, unexp.to_unexpected(), exp.as_str())
+            }
+            DeserializerError::InvalidValue(unexp, exp) => {
+                E::invalid_value(alloc, unexp.to_unexpected(), exp.as_str())
+            }
+            DeserializerError::InvalidLength(len, exp) => {
+                E::invalid_length(alloc, *len, exp.as_str())
+            }
+            DeserializerError::UnknownVariant(variant, expected) => {
+                E::unknown_variant(alloc, variant.as_str(), expected)
+            }
+            DeserializerError::UnknownField(field, expected) => {
+                E::unknown_field(alloc, field.as_str(), expected)
+            }
+            DeserializerError::MissingField(field) => E::missing_field(alloc, field.as_str()),
+            DeserializerError::DuplicateField(field) => E::duplicate_field(alloc, field.as_str()),
+            DeserializerError::Memory => E::memory(),
+        }
+    }
+
+    /// The same of an error that is moved: serde_value's `into_error`.
+    pub fn into_error<E: DeError>(self, alloc: Global) -> E
+        ensures fault { SameFault (E.fault result) (fault_of self) }
+        ensures memory { fault_of self ≡ None → E.fault result ≡ None }
+    {
+        self.to_error(alloc)
+    }
 }
 
 impl DeError for DeserializerError {
