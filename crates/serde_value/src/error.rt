@@ -5,6 +5,7 @@ ghost use Rattle.serde_value.specs.ErrorView.{fault_of, SameFault};
 use crate::unexpected::Unexpected;
 use data_core::{DeError, Fault, Names, Text};
 use std::alloc::Global;
+use std::fmt;
 
 /// Why a tree was not read: serde_value's `DeserializerError`. `Memory` stands for want of memory,
 /// and carries no claim on the tree.
@@ -148,4 +149,47 @@ impl DeError for DeserializerError {
             DeserializerError::Memory => None,
         }
     }
+}
+
+impl fmt::Display for DeserializerError {
+    fn fmt<W: fmt::Write>(&self, f: &mut fmt::Formatter<W>) -> fmt::Result {
+        match self {
+            DeserializerError::Custom(msg) => f.write_str(msg.as_str()),
+            DeserializerError::InvalidType(unexp, exp) => {
+                write!(f, "Invalid type {unexp}. Expected {}", exp.as_str())
+            }
+            DeserializerError::InvalidValue(unexp, exp) => {
+                write!(f, "Invalid value {unexp}. Expected {}", exp.as_str())
+            }
+            DeserializerError::InvalidLength(len, exp) => {
+                write!(f, "Invalid length {len}. Expected {}", exp.as_str())
+            }
+            DeserializerError::UnknownVariant(variant, expected) => {
+                write!(f, "Unknown variant {}. Expected one of ", variant.as_str())?;
+                write_joined(f, expected)
+            }
+            DeserializerError::UnknownField(field, expected) => {
+                write!(f, "Unknown field {}. Expected one of ", field.as_str())?;
+                write_joined(f, expected)
+            }
+            DeserializerError::MissingField(field) => write!(f, "Missing field {}", field.as_str()),
+            DeserializerError::DuplicateField(field) => {
+                write!(f, "Duplicate field {}", field.as_str())
+            }
+            DeserializerError::Memory => f.write_str("out of memory"),
+        }
+    }
+}
+
+// The names, with a comma between two.
+fn write_joined<W: fmt::Write>(f: &mut fmt::Formatter<W>, names: &Names) -> fmt::Result {
+    for place in 0..names.len() {
+        if place > 0 {
+            f.write_str(", ")?;
+        }
+        if let Some(name) = names.get(place) {
+            f.write_str(name)?;
+        }
+    }
+    Ok(())
 }

@@ -5,6 +5,7 @@ ghost use Rattle.serde_value.specs.Unexpected.{kind_of};
 
 use data_core::Text;
 use std::alloc::{AllocError, Global};
+use std::fmt;
 
 /// What a reader saw: serde_value's owned `Unexpected`, without floats.
 #[derive(Drop)]
@@ -77,5 +78,12 @@ impl Unexpected {
             Unexpected::StructVariant => data_core::Unexpected::StructVariant,
             Unexpected::Other(s) => data_core::Unexpected::Other(s.as_str()),
         }
+    }
+}
+
+/// The text of what is lent.
+impl fmt::Display for Unexpected {
+    fn fmt<W: fmt::Write>(&self, f: &mut fmt::Formatter<W>) -> fmt::Result {
+        self.to_unexpected().fmt(f)
     }
 }
