@@ -1,7 +1,7 @@
 //! What a reader saw where it wanted something else, owned.
 ghost use Rattle.std.specs.Prelude.{◌≡◌, IfOk};
-ghost use Rattle.data_core.specs.Unexpected.{kind_of as kind_seen};
-ghost use Rattle.serde_value.specs.Unexpected.{kind_of};
+ghost use Rattle.data_core.specs.Unexpected.{kind_of as kind_lent, seen_of as seen_lent};
+ghost use Rattle.serde_value.specs.Unexpected.{kind_of, seen_of};
 
 use data_core::Text;
 use std::alloc::{AllocError, Global};
@@ -32,7 +32,8 @@ pub enum Unexpected {
 impl Unexpected {
     /// A copy of what a reader saw.
     pub fn from_core(alloc: Global, u: data_core::Unexpected<'_>) -> Result<Unexpected, AllocError>
-        ensures kind { IfOk result (λ o. kind_of o ≡ kind_seen u.entry) }
+        ensures seen { IfOk result (λ o. seen_of o ≡ seen_lent u.entry) }
+        ensures kind { IfOk result (λ o. kind_of o ≡ kind_lent u.entry) }
     {
         Ok(match u {
             data_core::Unexpected::Bool(b) => Unexpected::Bool(b),
@@ -57,7 +58,8 @@ impl Unexpected {
 
     /// The same, lent. Takes no memory.
     pub fn to_unexpected(&self) -> data_core::Unexpected<'_>
-        ensures kind { kind_seen result ≡ kind_of self.now }
+        ensures seen { seen_lent result ≡ seen_of self.now }
+        ensures kind { kind_lent result ≡ kind_of self.now }
     {
         match self {
             Unexpected::Bool(b) => data_core::Unexpected::Bool(*b),
