@@ -193,3 +193,103 @@ fn write_joined<W: fmt::Write>(f: &mut fmt::Formatter<W>, names: &Names) -> fmt:
     }
     Ok(())
 }
+
+#[cfg(test)]
+mod tests {
+    use super::*;
+    use data_core::Kind;
+    use std::alloc::AllocError;
+    use std::test::Fail;
+
+    fn fault_text(alloc: Global, fault: Option<Fault>) -> Result<String, AllocError> {
+        match fault {
+            Some(Fault::InvalidType(Kind::Bool)) => String::from_str(alloc, "type of a bool"),
+            Some(Fault::InvalidValue(Kind::Str)) => String::from_str(alloc, "value of a str"),
+            Some(Fault::InvalidLength(len)) => format!(in alloc; "length {len}"),
+            Some(Fault::UnknownVariant(name)) => format!(in alloc; "variant {}", name.as_str()),
+            Some(Fault::UnknownField(name)) => format!(in alloc; "field {}", name.as_str()),
+            Some(Fault::MissingField(name)) => format!(in alloc; "missing {}", name.as_str()),
+            Some(Fault::DuplicateField(name)) => format!(in alloc; "duplicate {}", name.as_str()),
+            Some(Fault::Custom) => String::from_str(alloc, "custom"),
+            Some(_) => String::from_str(alloc, "another"),
+            None => String::from_str(alloc, "none"),
+        }
+    }
+
+    fn two_names(alloc: Global) -> Result<Names, Fail> {
+        let mut names = Names::new(alloc);
+        for name in ["a", "b"] {
+            if names.push(Text::new(alloc, name)?).is_err() {
+                return Err(AllocError.into());
+            }
+        }
+        Ok(names)
+    }
+
+    #[test]
+    fn faults_and_texts(rt: HostRuntime) -> Result<(), Fail> {
+        let alloc = rt.alloc();
+        let names = two_names(alloc)?;
+        let cases = [
+            (DeserializerError::custom(alloc, "no"), "custom", "no"),
+            (
+                DeserializerError::invalid_type(alloc, data_core::Unexpected::Bool(true), "a text"),
+                "type of a bool",
+                "Invalid type boolean `true`. Expected a text",
+            ),
+            (
+                DeserializerError::invalid_value(alloc, data_core::Unexpected::Str("x"), "a date"),
+                "value of a str",
+                "Invalid value string \"x\". Expected a date",
+            ),
+            (
+                DeserializerError::invalid_length(alloc, 3, "a pair"),
+                "length 3",
+                "Invalid length 3. Expected a pair",
+            ),
+            (
+                DeserializerError::unknown_variant(alloc, "t", &names),
+                "variant t",
+                "Unknown variant t. Expected one of a, b",
+            ),
+            (
+                DeserializerError::unknown_field(alloc, "t", &names),
+                "field t",
+                "Unknown field t. Expected one of a, b",
+            ),
+            (
+                DeserializerError::missing_field(alloc, "f"),
+                "missing f",
+                "Missing field f",
+            ),
+            (
+                DeserializerError::duplicate_field(alloc, "f"),
+                "duplicate f",
+                "Duplicate field f",
+            ),
+            (DeserializerError::memory(), "none", "out of memory"),
+        ];
+        for (error, fault, text) in cases {
+            assert_eq!(rt; error.to_string(alloc)?.as_str(), text);
+            assert_eq!(rt; fault_text(alloc, error.into_fault())?.as_str(), fault);
+        }
+        Ok(())
+    }
+
+    #[test]
+    fn a_duplicate_field_stays_one(rt: HostRuntime) -> Result<(), Fail> {
+        let alloc = rt.alloc();
+        let error = DeserializerError::DuplicateField(Text::new(alloc, "a")?);
+        let made: DeserializerError = error.to_error(alloc);
+        assert_eq!(rt;
+            fault_text(alloc, made.into_fault())?.as_str(),
+            "duplicate a"
+        );
+        let made: DeserializerError = error.into_error(alloc);
+        assert_eq!(rt;
+            fault_text(alloc, made.into_fault())?.as_str(),
+            "duplicate a"
+        );
+        Ok(())
+    }
+}

@@ -89,3 +89,45 @@ impl fmt::Display for Unexpected {
         self.to_unexpected().fmt(f)
     }
 }
+
+#[cfg(test)]
+mod tests {
+    use super::*;
+    use data_core::Unexpected as Lent;
+    use std::test::Fail;
+
+    #[test]
+    fn texts(rt: HostRuntime) -> Result<(), Fail> {
+        let cases = [
+            (Lent::Bool(true), "boolean `true`"),
+            (Lent::Unsigned(1), "integer `1`"),
+            (Lent::Signed(-1), "integer `-1`"),
+            (Lent::Char('x'), "character `x`"),
+            (Lent::Str("a \"b\""), r#"string "a \"b\"""#),
+            (Lent::Bytes(b"x"), "byte array"),
+            (Lent::Unit, "unit value"),
+            (Lent::Option, "Option value"),
+            (Lent::NewtypeStruct, "newtype struct"),
+            (Lent::Seq, "sequence"),
+            (Lent::Map, "map"),
+            (Lent::Enum, "enum"),
+            (Lent::UnitVariant, "unit variant"),
+            (Lent::NewtypeVariant, "newtype variant"),
+            (Lent::TupleVariant, "tuple variant"),
+            (Lent::StructVariant, "struct variant"),
+            (Lent::Other("i128"), "i128"),
+        ];
+        for (lent, text) in cases {
+            let owned = Unexpected::from_core(rt.alloc(), lent)?;
+            assert_eq!(rt; owned.to_string(rt.alloc())?.as_str(), text);
+        }
+        Ok(())
+    }
+
+    #[test]
+    fn a_text_goes_there_and_back(rt: HostRuntime) -> Result<(), Fail> {
+        let owned = Unexpected::from_core(rt.alloc(), Lent::Str("x"))?;
+        assert!(rt; matches!(owned.to_unexpected(), Lent::Str("x")));
+        Ok(())
+    }
+}
