@@ -1,6 +1,10 @@
 //! The error of reading a tree.
 ghost use Rattle.std.specs.Prelude.{◌≡◌, None};
+ghost use Rattle.data_core.specs.Fault.{IsCalled};
+ghost use Rattle.data_core.specs.Unexpected.{kind_of, seen_of};
 ghost use Rattle.serde_value.specs.ErrorView.{fault_of, SameFault};
+ghost use Rattle.serde_value.specs.Report.{Reports};
+ghost use Rattle.serde_value.specs.Report as report;
 
 use crate::unexpected::Unexpected;
 use data_core::{DeError, Fault, Names, Text};
@@ -68,18 +72,20 @@ impl DeError for DeserializerError {
         DeserializerError::Memory
     }
 
-    fn custom(alloc: Global, msg: &str) -> DeserializerError {
+    fn custom(alloc: Global, msg: &str) -> DeserializerError
+        ensures fault { IsCalled (fault_of result) Fault.Custom }
+        ensures report { Reports result (report.custom msg.now) }
+    {
         match Text::new(alloc, msg) {
             Ok(msg) => DeserializerError::Custom(msg),
             Err(_) => DeserializerError::Memory,
         }
     }
 
-    fn invalid_type(
-        alloc: Global,
-        unexp: data_core::Unexpected<'_>,
-        exp: &str,
-    ) -> DeserializerError {
+    fn invalid_type(alloc: Global, unexp: data_core::Unexpected<'_>, exp: &str) -> DeserializerError
+        ensures fault { IsCalled (fault_of result) (Fault.InvalidType (kind_of unexp.entry)) }
+        ensures report { Reports result (report.invalid_type (seen_of unexp.entry) exp.now) }
+    {
         match (Unexpected::from_core(alloc, unexp), Text::new(alloc, exp)) {
             (Ok(unexp), Ok(exp)) => DeserializerError::InvalidType(unexp, exp),
             _ => DeserializerError::Memory,
@@ -90,42 +96,60 @@ impl DeError for DeserializerError {
         alloc: Global,
         unexp: data_core::Unexpected<'_>,
         exp: &str,
-    ) -> DeserializerError {
+    ) -> DeserializerError
+        ensures fault { IsCalled (fault_of result) (Fault.InvalidValue (kind_of unexp.entry)) }
+        ensures report { Reports result (report.invalid_value (seen_of unexp.entry) exp.now) }
+    {
         match (Unexpected::from_core(alloc, unexp), Text::new(alloc, exp)) {
             (Ok(unexp), Ok(exp)) => DeserializerError::InvalidValue(unexp, exp),
             _ => DeserializerError::Memory,
         }
     }
 
-    fn invalid_length(alloc: Global, len: usize, exp: &str) -> DeserializerError {
+    fn invalid_length(alloc: Global, len: usize, exp: &str) -> DeserializerError
+        ensures fault { IsCalled (fault_of result) (Fault.InvalidLength len) }
+        ensures report { Reports result (report.invalid_length len exp.now) }
+    {
         match Text::new(alloc, exp) {
             Ok(exp) => DeserializerError::InvalidLength(len, exp),
             Err(_) => DeserializerError::Memory,
         }
     }
 
-    fn unknown_variant(alloc: Global, variant: &str, expected: &Names) -> DeserializerError {
+    fn unknown_variant(alloc: Global, variant: &str, expected: &Names) -> DeserializerError
+        ensures fault { IsCalled (fault_of result) (Fault.UnknownVariant variant.now) }
+        ensures report { Reports result (report.unknown_variant variant.now expected.now) }
+    {
         match (Text::new(alloc, variant), expected.try_clone(alloc)) {
             (Ok(variant), Ok(expected)) => DeserializerError::UnknownVariant(variant, expected),
             _ => DeserializerError::Memory,
         }
     }
 
-    fn unknown_field(alloc: Global, field: &str, expected: &Names) -> DeserializerError {
+    fn unknown_field(alloc: Global, field: &str, expected: &Names) -> DeserializerError
+        ensures fault { IsCalled (fault_of result) (Fault.UnknownField field.now) }
+        ensures report { Reports result (report.unknown_field field.now expected.now) }
+    {
         match (Text::new(alloc, field), expected.try_clone(alloc)) {
             (Ok(field), Ok(expected)) => DeserializerError::UnknownField(field, expected),
             _ => DeserializerError::Memory,
         }
     }
 
-    fn missing_field(alloc: Global, field: &str) -> DeserializerError {
+    fn missing_field(alloc: Global, field: &str) -> DeserializerError
+        ensures fault { IsCalled (fault_of result) (Fault.MissingField field.now) }
+        ensures report { Reports result (report.missing_field field.now) }
+    {
         match Text::new(alloc, field) {
             Ok(field) => DeserializerError::MissingField(field),
             Err(_) => DeserializerError::Memory,
         }
     }
 
-    fn duplicate_field(alloc: Global, field: &str) -> DeserializerError {
+    fn duplicate_field(alloc: Global, field: &str) -> DeserializerError
+        ensures fault { IsCalled (fault_of result) (Fault.DuplicateField field.now) }
+        ensures report { Reports result (report.duplicate_field field.now) }
+    {
         match Text::new(alloc, field) {
             Ok(field) => DeserializerError::DuplicateField(field),
             Err(_) => DeserializerError::Memory,
