@@ -1,5 +1,5 @@
 -- The fault of an error. Want of memory has none.
-use Rattle.std.specs.Prelude.{Option, Some, None}
+use Rattle.std.specs.Prelude.{◌≡◌, Option, Some, None}
 use Rattle.data_core.specs.declared.fault.Fault.{Fault}
 use Rattle.data_core.specs.declared.fault.Fault.TheVariants as fault
 use Rattle.serde_value.specs.Unexpected.{kind_of}
@@ -16,3 +16,8 @@ fault_of (error.UnknownField field expected) = Some (fault.UnknownField field)
 fault_of (error.MissingField field) = Some (fault.MissingField field)
 fault_of (error.DuplicateField field) = Some (fault.DuplicateField field)
 fault_of error.Memory = None
+
+-- an error that was made from another has the other's fault, or none for want of memory
+abbrev pub SameFault : Option Fault → Option Fault → Type 0
+SameFault None f = Unit {0}
+SameFault (Some g) f = Some g ≡ f

@@ -2,3 +2,4 @@ pub mod View
 pub mod Deserializer
 pub mod Unexpected
 pub mod ErrorView
+pub mod Report

@@ -81,3 +81,80 @@ impl<E: DeError> Deserializer for ValueDeserializer<E> {
         }
     }
 }
+
+#[cfg(test)]
+mod tests {
+    use super::*;
+    use crate::error::DeserializerError;
+    use std::alloc::AllocError;
+    use std::test::Fail;
+
+    fn trees(alloc: Global) -> Result<[(Value, &'static str); 13], AllocError> {
+        Ok([
+            (Value::Bool(true), "bool true"),
+            (Value::U8(1), "u8 1"),
+            (Value::U16(2), "u16 2"),
+            (Value::U32(3), "u32 3"),
+            (Value::U64(4), "u64 4"),
+            (Value::I8(-1), "i8 -1"),
+            (Value::I16(-2), "i16 -2"),
+            (Value::I32(-3), "i32 -3"),
+            (Value::I64(-4), "i64 -4"),
+            (Value::Char('x'), "char x"),
+            (Value::String(String::from_str(alloc, "t")?), "text t"),
+            (Value::Unit, "unit"),
+            (Value::Bytes(Vec::from_slice(alloc, b"b")?), "bytes [98]"),
+        ])
+    }
+
+    fn scalar_text(alloc: Global, scalar: Scalar<String, Vec<u8>>) -> Result<String, AllocError> {
+        match scalar {
+            Scalar::Bool(b) => format!(in alloc; "bool {b}"),
+            Scalar::I8(n) => format!(in alloc; "i8 {n}"),
+            Scalar::I16(n) => format!(in alloc; "i16 {n}"),
+            Scalar::I32(n) => format!(in alloc; "i32 {n}"),
+            Scalar::I64(n) => format!(in alloc; "i64 {n}"),
+            Scalar::U8(n) => format!(in alloc; "u8 {n}"),
+            Scalar::U16(n) => format!(in alloc; "u16 {n}"),
+            Scalar::U32(n) => format!(in alloc; "u32 {n}"),
+            Scalar::U64(n) => format!(in alloc; "u64 {n}"),
+            Scalar::Char(c) => format!(in alloc; "char {c}"),
+            Scalar::Text(text) => format!(in alloc; "text {text}"),
+            Scalar::Bytes(bytes) => format!(in alloc; "bytes {bytes:?}"),
+            Scalar::Unit => String::from_str(alloc, "unit"),
+            Scalar::I128(_) | Scalar::U128(_) | Scalar::None => String::from_str(alloc, "another"),
+        }
+    }
+
+    #[test]
+    fn a_tree_is_shown_as_it_is(rt: HostRuntime) -> Result<(), Fail> {
+        for (tree, text) in trees(rt.alloc())? {
+            let d = ValueDeserializer::<DeserializerError>::new(rt.alloc(), tree);
+            match d.show(Hint::Any) {
+                Ok(Shown::Scalar(scalar)) => {
+                    assert_eq!(rt; scalar_text(rt.alloc(), scalar)?.as_str(), text);
+                }
+                Err(error) => panic!(rt; "{error}"),
+            }
+        }
+        Ok(())
+    }
+
+    #[test]
+    fn wide_integers_are_refused(rt: HostRuntime) -> Result<(), Fail> {
+        for (tree, text) in trees(rt.alloc())? {
+            let d = ValueDeserializer::<DeserializerError>::new(rt.alloc(), tree);
+            match d.show(Hint::U128) {
+                Ok(_) => panic!(rt; "{text}"),
+                Err(error) => assert!(rt; matches!(error, DeserializerError::Custom(_)), "{text}"),
+            }
+        }
+        Ok(())
+    }
+
+    #[test]
+    fn a_tree_comes_back(rt: HostRuntime) {
+        let d = ValueDeserializer::<DeserializerError>::new(rt.alloc(), Value::U8(7));
+        assert!(rt; matches!(d.into_value(), Value::U8(7)));
+    }
+}

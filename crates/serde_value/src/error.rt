@@ -1,9 +1,15 @@
 //! The error of reading a tree.
-ghost use Rattle.serde_value.specs.ErrorView.{fault_of};
+ghost use Rattle.std.specs.Prelude.{◌≡◌, None};
+ghost use Rattle.data_core.specs.Fault.{IsCalled};
+ghost use Rattle.data_core.specs.Unexpected.{kind_of, seen_of};
+ghost use Rattle.serde_value.specs.ErrorView.{fault_of, SameFault};
+ghost use Rattle.serde_value.specs.Report.{Reports};
+ghost use Rattle.serde_value.specs.Report as report;
 
 use crate::unexpected::Unexpected;
 use data_core::{DeError, Fault, Names, Text};
 use std::alloc::Global;
+use std::fmt;
 
 /// Why a tree was not read: serde_value's `DeserializerError`. `Memory` stands for want of memory,
 /// and carries no claim on the tree.
@@ -20,6 +26,45 @@ pub enum DeserializerError {
     Memory,
 }
 
+impl DeserializerError {
+    /// The same error in another error type: serde_value's `to_error`, except that a duplicate field
+    /// stays one.
+    pub fn to_error<E: DeError>(&self, alloc: Global) -> E
+        ensures fault { SameFault (E.fault result) (fault_of self.now) }
+        ensures memory { fault_of self.now ≡ None → E.fault result ≡ None }
+    {
+        match self {
+            DeserializerError::Custom(msg) => E::custom(alloc, msg.as_str()),
+            DeserializerError::InvalidType(unexp, exp) => {
+                E::invalid_type(alloc, unexp.to_unexpected(), exp.as_str())
+            }
+            DeserializerError::InvalidValue(unexp, exp) => {
+                E::invalid_value(alloc, unexp.to_unexpected(), exp.as_str())
+            }
+            DeserializerError::InvalidLength(len, exp) => {
+                E::invalid_length(alloc, *len, exp.as_str())
+            }
+            DeserializerError::UnknownVariant(variant, expected) => {
+                E::unknown_variant(alloc, variant.as_str(), expected)
+            }
+            DeserializerError::UnknownField(field, expected) => {
+                E::unknown_field(alloc, field.as_str(), expected)
+            }
+            DeserializerError::MissingField(field) => E::missing_field(alloc, field.as_str()),
+            DeserializerError::DuplicateField(field) => E::duplicate_field(alloc, field.as_str()),
+            DeserializerError::Memory => E::memory(),
+        }
+    }
+
+    /// The same of an error that is moved: serde_value's `into_error`.
+    pub fn into_error<E: DeError>(self, alloc: Global) -> E
+        ensures fault { SameFault (E.fault result) (fault_of self) }
+        ensures memory { fault_of self ≡ None → E.fault result ≡ None }
+    {
+        self.to_error(alloc)
+    }
+}
+
 impl DeError for DeserializerError {
     ghost fault = { fault_of };
 
@@ -27,18 +72,20 @@ impl DeError for DeserializerError {
         DeserializerError::Memory
     }
 
-    fn custom(alloc: Global, msg: &str) -> DeserializerError {
+    fn custom(alloc: Global, msg: &str) -> DeserializerError
+        ensures fault { IsCalled (fault_of result) Fault.Custom }
+        ensures report { Reports result (report.custom msg.now) }
+    {
         match Text::new(alloc, msg) {
             Ok(msg) => DeserializerError::Custom(msg),
             Err(_) => DeserializerError::Memory,
         }
     }
 
-    fn invalid_type(
-        alloc: Global,
-        unexp: data_core::Unexpected<'_>,
-        exp: &str,
-    ) -> DeserializerError {
+    fn invalid_type(alloc: Global, unexp: data_core::Unexpected<'_>, exp: &str) -> DeserializerError
+        ensures fault { IsCalled (fault_of result) (Fault.InvalidType (kind_of unexp.entry)) }
+        ensures report { Reports result (report.invalid_type (seen_of unexp.entry) exp.now) }
+    {
         match (Unexpected::from_core(alloc, unexp), Text::new(alloc, exp)) {
             (Ok(unexp), Ok(exp)) => DeserializerError::InvalidType(unexp, exp),
             _ => DeserializerError::Memory,
@@ -49,42 +96,60 @@ impl DeError for DeserializerError {
         alloc: Global,
         unexp: data_core::Unexpected<'_>,
         exp: &str,
-    ) -> DeserializerError {
+    ) -> DeserializerError
+        ensures fault { IsCalled (fault_of result) (Fault.InvalidValue (kind_of unexp.entry)) }
+        ensures report { Reports result (report.invalid_value (seen_of unexp.entry) exp.now) }
+    {
         match (Unexpected::from_core(alloc, unexp), Text::new(alloc, exp)) {
             (Ok(unexp), Ok(exp)) => DeserializerError::InvalidValue(unexp, exp),
             _ => DeserializerError::Memory,
         }
     }
 
-    fn invalid_length(alloc: Global, len: usize, exp: &str) -> DeserializerError {
+    fn invalid_length(alloc: Global, len: usize, exp: &str) -> DeserializerError
+        ensures fault { IsCalled (fault_of result) (Fault.InvalidLength len) }
+        ensures report { Reports result (report.invalid_length len exp.now) }
+    {
         match Text::new(alloc, exp) {
             Ok(exp) => DeserializerError::InvalidLength(len, exp),
             Err(_) => DeserializerError::Memory,
         }
     }
 
-    fn unknown_variant(alloc: Global, variant: &str, expected: &Names) -> DeserializerError {
+    fn unknown_variant(alloc: Global, variant: &str, expected: &Names) -> DeserializerError
+        ensures fault { IsCalled (fault_of result) (Fault.UnknownVariant variant.now) }
+        ensures report { Reports result (report.unknown_variant variant.now expected.now) }
+    {
         match (Text::new(alloc, variant), expected.try_clone(alloc)) {
             (Ok(variant), Ok(expected)) => DeserializerError::UnknownVariant(variant, expected),
             _ => DeserializerError::Memory,
         }
     }
 
-    fn unknown_field(alloc: Global, field: &str, expected: &Names) -> DeserializerError {
+    fn unknown_field(alloc: Global, field: &str, expected: &Names) -> DeserializerError
+        ensures fault { IsCalled (fault_of result) (Fault.UnknownField field.now) }
+        ensures report { Reports result (report.unknown_field field.now expected.now) }
+    {
         match (Text::new(alloc, field), expected.try_clone(alloc)) {
             (Ok(field), Ok(expected)) => DeserializerError::UnknownField(field, expected),
             _ => DeserializerError::Memory,
         }
     }
 
-    fn missing_field(alloc: Global, field: &str) -> DeserializerError {
+    fn missing_field(alloc: Global, field: &str) -> DeserializerError
+        ensures fault { IsCalled (fault_of result) (Fault.MissingField field.now) }
+        ensures report { Reports result (report.missing_field field.now) }
+    {
         match Text::new(alloc, field) {
             Ok(field) => DeserializerError::MissingField(field),
             Err(_) => DeserializerError::Memory,
         }
     }
 
-    fn duplicate_field(alloc: Global, field: &str) -> DeserializerError {
+    fn duplicate_field(alloc: Global, field: &str) -> DeserializerError
+        ensures fault { IsCalled (fault_of result) (Fault.DuplicateField field.now) }
+        ensures report { Reports result (report.duplicate_field field.now) }
+    {
         match Text::new(alloc, field) {
             Ok(field) => DeserializerError::DuplicateField(field),
             Err(_) => DeserializerError::Memory,
@@ -107,5 +172,148 @@ impl DeError for DeserializerError {
             DeserializerError::DuplicateField(field) => Some(Fault::DuplicateField(field)),
             DeserializerError::Memory => None,
         }
+    }
+}
+
+impl fmt::Display for DeserializerError {
+    fn fmt<W: fmt::Write>(&self, f: &mut fmt::Formatter<W>) -> fmt::Result {
+        match self {
+            DeserializerError::Custom(msg) => f.write_str(msg.as_str()),
+            DeserializerError::InvalidType(unexp, exp) => {
+                write!(f, "Invalid type {unexp}. Expected {}", exp.as_str())
+            }
+            DeserializerError::InvalidValue(unexp, exp) => {
+                write!(f, "Invalid value {unexp}. Expected {}", exp.as_str())
+            }
+            DeserializerError::InvalidLength(len, exp) => {
+                write!(f, "Invalid length {len}. Expected {}", exp.as_str())
+            }
+            DeserializerError::UnknownVariant(variant, expected) => {
+                write!(f, "Unknown variant {}. Expected one of ", variant.as_str())?;
+                write_joined(f, expected)
+            }
+            DeserializerError::UnknownField(field, expected) => {
+                write!(f, "Unknown field {}. Expected one of ", field.as_str())?;
+                write_joined(f, expected)
+            }
+            DeserializerError::MissingField(field) => write!(f, "Missing field {}", field.as_str()),
+            DeserializerError::DuplicateField(field) => {
+                write!(f, "Duplicate field {}", field.as_str())
+            }
+            DeserializerError::Memory => f.write_str("out of memory"),
+        }
+    }
+}
+
+// The names, with a comma between two.
+fn write_joined<W: fmt::Write>(f: &mut fmt::Formatter<W>, names: &Names) -> fmt::Result {
+    for place in 0..names.len() {
+        if place > 0 {
+            f.write_str(", ")?;
+        }
+        if let Some(name) = names.get(place) {
+            f.write_str(name)?;
+        }
+    }
+    Ok(())
+}
+
+#[cfg(test)]
+mod tests {
+    use super::*;
+    use data_core::Kind;
+    use std::alloc::AllocError;
+    use std::test::Fail;
+
+    fn fault_text(alloc: Global, fault: Option<Fault>) -> Result<String, AllocError> {
+        match fault {
+            Some(Fault::InvalidType(Kind::Bool)) => String::from_str(alloc, "type of a bool"),
+            Some(Fault::InvalidValue(Kind::Str)) => String::from_str(alloc, "value of a str"),
+            Some(Fault::InvalidLength(len)) => format!(in alloc; "length {len}"),
+            Some(Fault::UnknownVariant(name)) => format!(in alloc; "variant {}", name.as_str()),
+            Some(Fault::UnknownField(name)) => format!(in alloc; "field {}", name.as_str()),
+            Some(Fault::MissingField(name)) => format!(in alloc; "missing {}", name.as_str()),
+            Some(Fault::DuplicateField(name)) => format!(in alloc; "duplicate {}", name.as_str()),
+            Some(Fault::Custom) => String::from_str(alloc, "custom"),
+            Some(_) => String::from_str(alloc, "another"),
+            None => String::from_str(alloc, "none"),
+        }
+    }
+
+    fn two_names(alloc: Global) -> Result<Names, Fail> {
+        let mut names = Names::new(alloc);
+        for name in ["a", "b"] {
+            if names.push(Text::new(alloc, name)?).is_err() {
+                return Err(AllocError.into());
+            }
+        }
+        Ok(names)
+    }
+
+    #[test]
+    fn faults_and_texts(rt: HostRuntime) -> Result<(), Fail> {
+        let alloc = rt.alloc();
+        let names = two_names(alloc)?;
+        let cases = [
+            (DeserializerError::custom(alloc, "no"), "custom", "no"),
+            (
+                DeserializerError::invalid_type(alloc, data_core::Unexpected::Bool(true), "a text"),
+                "type of a bool",
+                "Invalid type boolean `true`. Expected a text",
+            ),
+            (
+                DeserializerError::invalid_value(alloc, data_core::Unexpected::Str("x"), "a date"),
+                "value of a str",
+                "Invalid value string \"x\". Expected a date",
+            ),
+            (
+                DeserializerError::invalid_length(alloc, 3, "a pair"),
+                "length 3",
+                "Invalid length 3. Expected a pair",
+            ),
+            (
+                DeserializerError::unknown_variant(alloc, "t", &names),
+                "variant t",
+                "Unknown variant t. Expected one of a, b",
+            ),
+            (
+                DeserializerError::unknown_field(alloc, "t", &names),
+                "field t",
+                "Unknown field t. Expected one of a, b",
+            ),
+            (
+                DeserializerError::missing_field(alloc, "f"),
+                "missing f",
+                "Missing field f",
+            ),
+            (
+                DeserializerError::duplicate_field(alloc, "f"),
+                "duplicate f",
+                "Duplicate field f",
+            ),
+            (DeserializerError::memory(), "none", "out of memory"),
+        ];
+        for (error, fault, text) in cases {
+            assert_eq!(rt; error.to_string(alloc)?.as_str(), text);
+            assert_eq!(rt; fault_text(alloc, error.into_fault())?.as_str(), fault);
+        }
+        Ok(())
+    }
+
+    #[test]
+    fn a_duplicate_field_stays_one(rt: HostRuntime) -> Result<(), Fail> {
+        let alloc = rt.alloc();
+        let error = DeserializerError::DuplicateField(Text::new(alloc, "a")?);
+        let made: DeserializerError = error.to_error(alloc);
+        assert_eq!(rt;
+            fault_text(alloc, made.into_fault())?.as_str(),
+            "duplicate a"
+        );
+        let made: DeserializerError = error.into_error(alloc);
+        assert_eq!(rt;
+            fault_text(alloc, made.into_fault())?.as_str(),
+            "duplicate a"
+        );
+        Ok(())
     }
 }

@@ -1,10 +1,11 @@
 //! What a reader saw where it wanted something else, owned.
 ghost use Rattle.std.specs.Prelude.{◌≡◌, IfOk};
-ghost use Rattle.data_core.specs.Unexpected.{kind_of as kind_seen};
-ghost use Rattle.serde_value.specs.Unexpected.{kind_of};
+ghost use Rattle.data_core.specs.Unexpected.{kind_of as kind_lent, seen_of as seen_lent};
+ghost use Rattle.serde_value.specs.Unexpected.{kind_of, seen_of};
 
 use data_core::Text;
 use std::alloc::{AllocError, Global};
+use std::fmt;
 
 /// What a reader saw: serde_value's owned `Unexpected`, without floats.
 #[derive(Drop)]
@@ -31,7 +32,8 @@ pub enum Unexpected {
 impl Unexpected {
     /// A copy of what a reader saw.
     pub fn from_core(alloc: Global, u: data_core::Unexpected<'_>) -> Result<Unexpected, AllocError>
-        ensures kind { IfOk result (λ o. kind_of o ≡ kind_seen u.entry) }
+        ensures seen { IfOk result (λ o. seen_of o ≡ seen_lent u.entry) }
+        ensures kind { IfOk result (λ o. kind_of o ≡ kind_lent u.entry) }
     {
         Ok(match u {
             data_core::Unexpected::Bool(b) => Unexpected::Bool(b),
@@ -56,7 +58,8 @@ impl Unexpected {
 
     /// The same, lent. Takes no memory.
     pub fn to_unexpected(&self) -> data_core::Unexpected<'_>
-        ensures kind { kind_seen result ≡ kind_of self.now }
+        ensures seen { seen_lent result ≡ seen_of self.now }
+        ensures kind { kind_lent result ≡ kind_of self.now }
     {
         match self {
             Unexpected::Bool(b) => data_core::Unexpected::Bool(*b),
@@ -77,5 +80,54 @@ impl Unexpected {
             Unexpected::StructVariant => data_core::Unexpected::StructVariant,
             Unexpected::Other(s) => data_core::Unexpected::Other(s.as_str()),
         }
+    }
+}
+
+/// The text of what is lent.
+impl fmt::Display for Unexpected {
+    fn fmt<W: fmt::Write>(&self, f: &mut fmt::Formatter<W>) -> fmt::Result {
+        self.to_unexpected().fmt(f)
+    }
+}
+
+#[cfg(test)]
+mod tests {
+    use super::*;
+    use data_core::Unexpected as Lent;
+    use std::test::Fail;
+
+    #[test]
+    fn texts(rt: HostRuntime) -> Result<(), Fail> {
+        let cases = [
+            (Lent::Bool(true), "boolean `true`"),
+            (Lent::Unsigned(1), "integer `1`"),
+            (Lent::Signed(-1), "integer `-1`"),
+            (Lent::Char('x'), "character `x`"),
+            (Lent::Str("a \"b\""), r#"string "a \"b\"""#),
+            (Lent::Bytes(b"x"), "byte array"),
+            (Lent::Unit, "unit value"),
+            (Lent::Option, "Option value"),
+            (Lent::NewtypeStruct, "newtype struct"),
+            (Lent::Seq, "sequence"),
+            (Lent::Map, "map"),
+            (Lent::Enum, "enum"),
+            (Lent::UnitVariant, "unit variant"),
+            (Lent::NewtypeVariant, "newtype variant"),
+            (Lent::TupleVariant, "tuple variant"),
+            (Lent::StructVariant, "struct variant"),
+            (Lent::Other("i128"), "i128"),
+        ];
+        for (lent, text) in cases {
+            let owned = Unexpected::from_core(rt.alloc(), lent)?;
+            assert_eq!(rt; owned.to_string(rt.alloc())?.as_str(), text);
+        }
+        Ok(())
+    }
+
+    #[test]
+    fn a_text_goes_there_and_back(rt: HostRuntime) -> Result<(), Fail> {
+        let owned = Unexpected::from_core(rt.alloc(), Lent::Str("x"))?;
+        assert!(rt; matches!(owned.to_unexpected(), Lent::Str("x")));
+        Ok(())
     }
 }
