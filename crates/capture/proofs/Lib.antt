@@ -3,3 +3,4 @@ pub mod Here
 pub mod SoleMember
 pub mod Numbers
 pub mod Documents
+pub mod Printing

@@ -4,3 +4,4 @@ pub mod First
 pub mod Reads
 pub mod Words
 pub mod Document
+pub mod Line

@@ -3,6 +3,7 @@
 
 mod document;
 mod input;
+mod line;
 mod members;
 mod reader;
 mod words;
