@@ -4,3 +4,4 @@ pub mod SoleMember
 pub mod Numbers
 pub mod Documents
 pub mod Printing
+pub mod NoFloat

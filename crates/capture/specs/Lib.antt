@@ -5,3 +5,6 @@ pub mod Reads
 pub mod Words
 pub mod Document
 pub mod Line
+pub mod Status
+pub mod Run
+pub mod Answer

@@ -1,12 +1,15 @@
 //! Reading under a shape, and the command line that reads a document and writes the answer.
 #![tactic(auto)]
 
+mod answer;
 mod document;
 mod input;
 mod line;
 mod members;
 mod reader;
+mod status;
 mod words;
 
 pub use input::Input;
 pub use reader::{ReadError, read};
+pub use status::Status;

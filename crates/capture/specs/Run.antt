@@ -1,0 +1,43 @@
+-- What a command does.
+use Rattle.std.specs.Prelude.{ℕ, ◌≡◌, ◌<◌, ◌≤◌, List, [], ◌∷◌, length, take, Option, Some, None, codes}
+use Rattle.data_core.specs.Outside.{with_front, with_more}
+use Rattle.data_core.specs.Outcome.{Outcome}
+use Rattle.shape.specs.Shape.{Data}
+use Rattle.capture.specs.Document.{Document}
+use Rattle.capture.specs.First.{first}
+use Rattle.capture.specs.Line.{line}
+use Rattle.capture.specs.Status.{status_of}
+use Rattle.capture.specs.declared.status.Status.{Status}
+use Rattle.capture.specs.declared.status.Status.TheVariants.{BadDocument}
+
+-- the command line `read`
+abbrev pub IsCommand : List (List ℕ) → Type 0
+IsCommand words = words ≡ codes "read" ∷ []
+
+-- the most bytes that a stream may have
+abbrev pub most_bytes : ℕ
+most_bytes = 16_777_216
+
+-- more bytes than this, or at most so many, were taken from a stream, by what is left of it
+abbrev pub TookMore : ℕ → Option (List ℕ) → Option (List ℕ) → Type 0
+TookMore n old new = (taken : List ℕ) × (old ≡ with_front taken new) × (n < length taken)
+
+abbrev pub TookAtMost : ℕ → Option (List ℕ) → Option (List ℕ) → Type 0
+TookAtMost n old new = (taken : List ℕ) × (old ≡ with_front taken new) × (length taken ≤ n)
+
+-- what is made of a document
+abbrev pub outcome_of : Document → Outcome Data
+outcome_of d = first d.shape d.input
+
+-- the sink took the whole line of an outcome, and the status is the outcome's
+abbrev pub IsAnswer : Status → Outcome Data → Option (List ℕ) → Option (List ℕ) → Type 0
+IsAnswer status outcome old new = (status ≡ status_of outcome) × (new ≡ with_more old (line outcome))
+
+-- the sink took a front of these bytes
+abbrev pub TookFront : List ℕ → Option (List ℕ) → Option (List ℕ) → Type 0
+TookFront bytes old new = (n : ℕ) × (new ≡ with_more old (take n bytes))
+
+-- a document is answered, and bytes that are none are refused
+abbrev pub Concludes : Option Document → Status → Option (List ℕ) → Option (List ℕ) → Type 0
+Concludes None status old new = status ≡ BadDocument
+Concludes (Some d) status old new = IsAnswer status (outcome_of d) old new
