@@ -5,3 +5,4 @@ pub mod Numbers
 pub mod Documents
 pub mod Printing
 pub mod NoFloat
+pub mod Streams

@@ -8,7 +8,7 @@ use Rattle.capture.specs.First.{first}
 use Rattle.capture.specs.Line.{line}
 use Rattle.capture.specs.Status.{status_of}
 use Rattle.capture.specs.declared.status.Status.{Status}
-use Rattle.capture.specs.declared.status.Status.TheVariants.{BadDocument}
+use Rattle.capture.specs.declared.status.Status.TheVariants.{Usage, BadDocument, ReadFault, TooLong}
 
 -- the command line `read`
 abbrev pub IsCommand : List (List ℕ) → Type 0
@@ -41,3 +41,10 @@ TookFront bytes old new = (n : ℕ) × (new ≡ with_more old (take n bytes))
 abbrev pub Concludes : Option Document → Status → Option (List ℕ) → Option (List ℕ) → Type 0
 Concludes None status old new = status ≡ BadDocument
 Concludes (Some d) status old new = IsAnswer status (outcome_of d) old new
+
+-- the statuses that a whole stream may be replied to with
+abbrev pub IsReply : Status → Type 0
+IsReply Usage = ⊥
+IsReply ReadFault = ⊥
+IsReply TooLong = ⊥
+IsReply status = Unit {0}

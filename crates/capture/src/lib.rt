@@ -7,9 +7,12 @@ mod input;
 mod line;
 mod members;
 mod reader;
+mod command;
 mod status;
+mod stream;
 mod words;
 
 pub use input::Input;
 pub use reader::{ReadError, read};
+pub use command::run;
 pub use status::Status;

@@ -1,0 +1,13 @@
+use Rattle.std.proofs.Common.{◌≡◌, ◌+◌, ◌-◌, vec_len}
+use Rattle.data_core.specs.Outside.{with_front}
+use Rattle.capture.specs.Run.{most_bytes}
+use Rattle.capture.proofs.stream.read_stream.Given as goal
+
+abbrev pub invariant-reads : goal.invariant-reads
+invariant-reads g l = record {
+  taken : g.S.Source.left l.fn.source ≡ with_front l.bytes.items (g.S.Source.left l.source);
+  faults : g.S.Source.faults l.source ≡ g.S.Source.faults l.fn.source;
+}
+
+abbrev pub decreases-reads : goal.decreases-reads
+decreases-reads g l = most_bytes + 1 - vec_len l.bytes
