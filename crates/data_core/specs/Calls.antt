@@ -17,6 +17,10 @@ fails_of c = c.fails.items
 abbrev pub next_number : Calls → ℕ
 next_number c = min (made_of c + 1) last_count
 
+-- how many calls failed, once one more has
+abbrev pub next_failed : Calls → ℕ
+next_failed c = min (failed_of c + 1) last_count
+
 -- the next call is to fail, or it is past the last number
 abbrev pub fails_next : Calls → Bool
 fails_next c = (next_number c == last_count) || list_any (λ number. number == next_number c) (fails_of c)

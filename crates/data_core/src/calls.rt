@@ -16,7 +16,7 @@ pub struct Calls {
 }
 
 impl Calls {
-    ghost use Rattle.data_core.specs.Calls.{made_of, failed_of, fails_of, next_number, fails_next};
+    ghost use Rattle.data_core.specs.Calls.{made_of, failed_of, fails_of, next_number, next_failed, fails_next};
 
     /// No call yet. Those with the numbers `fails`, counted from 1, are to fail.
     pub fn new(alloc: Global, fails: &[u64]) -> Result<Calls, AllocError>
@@ -44,6 +44,7 @@ impl Calls {
 
     /// Counts a failure.
     pub fn fail(&mut self) -> Failed
+        ensures once { failed_of self.new ≡ next_failed self.old }
         ensures failed { HasFailed (failed_of self.old) (failed_of self.new) }
         ensures never_falls { failed_of self.old ≤ failed_of self.new }
         ensures made { made_of self.new ≡ made_of self.old }

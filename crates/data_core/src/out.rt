@@ -78,7 +78,7 @@ impl MemoryOut {
 impl Out for MemoryOut {
     ghost use Rattle.std.specs.Prelude.{◌+◌};
     ghost use Rattle.data_core.specs.MemoryOut.{bytes_of, room_of, step_of, calls_of, refuses, most};
-    ghost use Rattle.data_core.specs.Calls.{failed_of, fails_of, made_of, next_number};
+    ghost use Rattle.data_core.specs.Calls.{failed_of, fails_of, made_of, next_number, next_failed};
 
     ghost taken = { λ m. Some (bytes_of m) };
 
@@ -96,6 +96,7 @@ impl Out for MemoryOut {
         ensures refuses { is_err result ≡ refuses self.old from.now }
         ensures most { IfOk result (λ n. n ≡ most self.old from.now) }
         ensures call { made_of (calls_of self.new) ≡ next_number (calls_of self.old) }
+        ensures fails_once { OnErr result (failed_of (calls_of self.new) ≡ next_failed (calls_of self.old)) }
         ensures fails { fails_of (calls_of self.new) ≡ fails_of (calls_of self.old) }
         ensures room_stays { room_of self.new ≡ room_of self.old }
         ensures step_stays { step_of self.new ≡ step_of self.old }

@@ -124,7 +124,6 @@ impl Path {
 
 impl fmt::Display for Path {
     ghost use Rattle.std.specs.Prelude.{Some};
-    ghost use Rattle.data_core.specs.PathText.{path_text};
 
     ghost output = { λ p. Some (path_text p) };
 

@@ -113,7 +113,7 @@ impl MemorySource {
 impl Source for MemorySource {
     ghost use Rattle.data_core.specs.MemorySource.{steady_of, calls_of};
     ghost use Rattle.data_core.specs.SteadySource.{left_of, step_of, most};
-    ghost use Rattle.data_core.specs.Calls.{made_of, failed_of, fails_of, next_number, fails_next};
+    ghost use Rattle.data_core.specs.Calls.{made_of, failed_of, fails_of, next_number, next_failed, fails_next};
 
     ghost left = { λ m. Some (left_of (steady_of m)) };
 
@@ -131,6 +131,7 @@ impl Source for MemorySource {
         ensures refuses { is_err result ≡ fails_next (calls_of self.old) }
         ensures most { IfOk result (λ n. n ≡ most (steady_of self.old) (length into.old)) }
         ensures call { made_of (calls_of self.new) ≡ next_number (calls_of self.old) }
+        ensures fails_once { OnErr result (failed_of (calls_of self.new) ≡ next_failed (calls_of self.old)) }
         ensures fails { fails_of (calls_of self.new) ≡ fails_of (calls_of self.old) }
         ensures step_stays { step_of (steady_of self.new) ≡ step_of (steady_of self.old) }
     {
