@@ -175,6 +175,7 @@ impl DeError for DeserializerError {
     }
 }
 
+/// The words of serde_value's `Display`, and `out of memory`.
 impl fmt::Display for DeserializerError {
     fn fmt<W: fmt::Write>(&self, f: &mut fmt::Formatter<W>) -> fmt::Result {
         match self {

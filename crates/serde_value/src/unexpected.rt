@@ -30,7 +30,7 @@ pub enum Unexpected {
 }
 
 impl Unexpected {
-    /// A copy of what a reader saw.
+    /// A copy of what a reader saw: serde_value's `From` of serde's `Unexpected`.
     pub fn from_core(alloc: Global, u: data_core::Unexpected<'_>) -> Result<Unexpected, AllocError>
         ensures seen { IfOk result (λ o. seen_of o ≡ seen_lent u.entry) }
         ensures kind { IfOk result (λ o. kind_of o ≡ kind_lent u.entry) }
@@ -56,7 +56,7 @@ impl Unexpected {
         })
     }
 
-    /// The same, lent. Takes no memory.
+    /// The same, lent: serde_value's `to_unexpected`. Takes no memory.
     pub fn to_unexpected(&self) -> data_core::Unexpected<'_>
         ensures seen { seen_lent result ≡ seen_of self.now }
         ensures kind { kind_lent result ≡ kind_of self.now }
