@@ -6,3 +6,4 @@ pub mod Documents
 pub mod Printing
 pub mod NoFloat
 pub mod Streams
+pub mod Replies

@@ -15,12 +15,7 @@ use std::alloc::Global;
 /// Runs a command: `words` are the arguments behind the program's name. `read` reads a document
 /// from the source and writes the line of its answer to the sink. Want of memory may stand in the
 /// place of every status but `Usage`.
-pub fn run<S: Source, O: Out>(
-    alloc: Global,
-    words: &Names,
-    source: &mut S,
-    out: &mut O,
-) -> Status
+pub fn run<S: Source, O: Out>(alloc: Global, words: &Names, source: &mut S, out: &mut O) -> Status
     // The words are settled first, and nothing else happens where they are no command line.
     ensures usage { (result ≡ Status.Usage) ↔ ¬ IsCommand words.now }
     ensures untouched { result ≡ Status.Usage → (source.new ≡ source.old) × (out.new ≡ out.old) }

@@ -2,17 +2,17 @@
 #![tactic(auto)]
 
 mod answer;
+mod command;
 mod document;
 mod input;
 mod line;
 mod members;
 mod reader;
-mod command;
 mod status;
 mod stream;
 mod words;
 
+pub use command::run;
 pub use input::Input;
 pub use reader::{ReadError, read};
-pub use command::run;
 pub use status::Status;

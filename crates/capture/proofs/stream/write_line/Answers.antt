@@ -1,4 +1,4 @@
-use Rattle.std.proofs.Common.{◌≡◌, ◌∙◌, ◌+◌, ◌≤◌, length, take, drop, rules, arith, ap, length-drop}
+use Rattle.std.proofs.Common.{◌∙◌, ◌≤◌, length, take, drop, rules, arith, ap, length-drop}
 use Rattle.data_core.specs.Outside.{with_more}
 use Rattle.capture.proofs.Streams.{with_more-take, tail}
 use Rattle.capture.proofs.stream.write_line.Goals as goal

@@ -1,0 +1,21 @@
+use Rattle.std.proofs.Common.{ℕ, List, ◌≢◌, ◌≤◌, length}
+use Rattle.data_core.specs.Outside.{HasFailed}
+use Rattle.capture.specs.Document.{document}
+use Rattle.capture.specs.Run.{most_bytes, Concludes}
+use Rattle.capture.specs.declared.status.Status.TheVariants.{Memory}
+use Rattle.capture.proofs.Replies.{whole_stream}
+use Rattle.capture.proofs.command.run.Goals as goal
+
+pub returns-in-Ok-clause-complete : goal.returns-in-Ok-clause-complete
+returns-in-Ok-clause-complete g c =
+    let source = g.S.Source in
+    let out = g.O.Out in
+    let taken = c.in-Ok.ensures.taken (λ wrong. cc) in
+    let concludes = rw c.deref.ensures.value at c.reply.ensures.complete in
+    let P : List ℕ → Type 0 = λ stream. length stream ≤ most_bytes
+    → ¬ HasFailed (source.faults c.args.source.now) (source.faults c.read_stream.new.source)
+    → ¬ HasFailed (out.faults c.args.out.now) (out.faults c.reply.new.out)
+    → c.reply.result ≢ Memory
+    → Concludes (document stream) c.reply.result (out.taken c.args.out.now) (out.taken c.reply.new.out) in
+    λ command. whole_stream (source.left c.args.source.now) (source.left c.read_stream.new.source) c.read_stream.new.bytes.items P taken c.in-Ok.ensures.end
+    (λ short calm quiet memory. concludes quiet memory)
