@@ -7,3 +7,4 @@ pub mod Printing
 pub mod NoFloat
 pub mod Streams
 pub mod Replies
+pub mod Hands

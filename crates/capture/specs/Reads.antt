@@ -22,3 +22,11 @@ IsRefusalHere (Refused path fault) given_fault = (path ≡ []) × (given_fault �
 abbrev pub Hands : Result Data ReadError → Outcome spec.Data → Type 0
 Hands (Ok d) outcome = outcome ≡ given (data_view d)
 Hands (Err e) outcome = IsRefusal e outcome
+
+-- the other way round: a value that is the outcome is handed out, and so is a refusal
+abbrev pub Answers : Outcome spec.Data → Result Data ReadError → Type 0
+Answers outcome (Err Memory) = Unit {0}
+Answers (given d) (Ok value) = data_view value ≡ d
+Answers (given d) (Err (Refused path fault)) = ⊥
+Answers (refused f p) (Ok value) = ⊥
+Answers (refused f p) (Err (Refused path fault)) = (fault ≡ f) × (path ≡ p)

@@ -1,5 +1,6 @@
 //! Reading of an input under a shape.
-ghost use Rattle.data_core.specs.Outcome.{Answers};
+ghost use Rattle.std.specs.Prelude.{◌≡◌, IfOk, IfErr};
+ghost use Rattle.data_core.specs.Outcome.{given, Answers as AnswersHere};
 ghost use Rattle.shape.specs.First.{first as first_source};
 ghost use Rattle.shape.specs.View.{shape_view, data_view};
 ghost use Rattle.serde_value.specs.View.{node_view};
@@ -7,7 +8,7 @@ ghost use Rattle.serde_value.specs.ErrorView.{fault_of};
 ghost use Rattle.capture.specs.Input.{input_view};
 ghost use Rattle.capture.specs.First.{first};
 ghost use Rattle.capture.specs.FirstTree.{first_tree};
-ghost use Rattle.capture.specs.Reads.{Hands, IsRefusalHere};
+ghost use Rattle.capture.specs.Reads.{Hands, Answers, IsRefusal, IsRefusalHere};
 
 use crate::input::Input;
 use data_core::{DeError, DeserializeSeed, Deserializer, Fault, Path, Track};
@@ -26,8 +27,11 @@ pub enum ReadError {
 
 /// Reads an input under a shape: its value, or the first fault in reading order with the path to
 /// the refused part.
+#[tactic(auto, using(crate::proofs::Hands::hands))]
 pub fn read(alloc: Global, shape: &Shape, input: Input) -> Result<Data, ReadError>
-    ensures { Hands result (first (shape_view shape.now) (input_view input)) }
+    ensures value { IfOk result (λ d. first (shape_view shape.now) (input_view input) ≡ given (data_view d)) }
+    ensures refusal { IfErr result (λ e. IsRefusal e (first (shape_view shape.now) (input_view input))) }
+    ensures complete { Answers (first (shape_view shape.now) (input_view input)) result }
 {
     match input {
         Input::Tree(value) => read_tree(alloc, shape, value),
@@ -46,7 +50,7 @@ fn read_tree(alloc: Global, shape: &Shape, value: Value) -> Result<Data, ReadErr
 
 // The value of a scalar shape, or the error that refuses it where it stands.
 fn read_scalar<D: Deserializer>(alloc: Global, shape: &Shape, d: D) -> Result<Data, D::Error>
-    ensures { Answers D.Error.fault data_view result (first_source (shape_view shape.now) (D.source d)) }
+    ensures { AnswersHere D.Error.fault data_view result (first_source (shape_view shape.now) (D.source d)) }
 {
     let mut track = Track::new(alloc);
     ShapeSeed::new(shape).deserialize(alloc, d, &mut track)

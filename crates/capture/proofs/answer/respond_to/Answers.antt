@@ -10,12 +10,12 @@ returns-in-Ok c =
     let json = c.in_ok-answer_value-in-Ok.field-0 in
     let written = answered (given (data_view c.in-Ok.value)) (view json) (string_bytes c.in_ok-line_of-in-Ok.field-0)
     c.in_ok-answer_value-in-Ok.ensures c.in_ok-line_of-in-Ok.ensures in
-    rw (c.in-Ok.ensures, written) refl
+    rw (c.in-Ok.ensures.value, written) refl
 
 pub returns-in-Err-Refused : goal.returns-in-Err-Refused
 returns-in-Err-Refused c =
     let json = c.in_ok-answer_refusal-in-Err-Refused.field-0 in
-    let given_up = rw c.in-Err-Refused.field-0-is at c.in-Err-Refused.ensures in
+    let given_up = rw c.in-Err-Refused.field-0-is at c.in-Err-Refused.ensures.refusal in
     let written = answered (refused c.in-Err-Refused.fault c.in-Err-Refused.path) (view json) (string_bytes c.in_ok-line_of-in-Err-Refused.field-0)
     c.in_ok-answer_refusal-in-Err-Refused.ensures c.in_ok-line_of-in-Err-Refused.ensures in
     rw (given_up, written) refl

@@ -1,0 +1,28 @@
+-- What is handed out, in its three ways of being said.
+use Rattle.std.proofs.Common.{◌≡◌, Result, Ok, Err}
+use Rattle.std.specs.Result.{IfOk, IfErr}
+use Rattle.data_core.specs.Outcome.{Outcome, given, refused}
+use Rattle.shape.specs.Shape as spec
+use Rattle.shape.specs.View.{data_view}
+use Rattle.shape.specs.declared.data.Data.{Data}
+use Rattle.capture.specs.declared.reader.ReadError.{ReadError}
+use Rattle.capture.specs.declared.reader.ReadError.TheVariants.{Memory, Refused}
+use Rattle.capture.specs.Reads.{Hands, Answers, IsRefusal}
+
+pub hands_value : (r : Result Data ReadError) (o : Outcome spec.Data) → Hands r o → IfOk r (λ d. o ≡ given (data_view d))
+hands_value (Ok d) o h = h
+hands_value (Err e) o h = tt
+
+pub hands_refusal : (r : Result Data ReadError) (o : Outcome spec.Data) → Hands r o → IfErr r (λ e. IsRefusal e o)
+hands_refusal (Ok d) o h = tt
+hands_refusal (Err e) o h = h
+
+pub hands_answer : (r : Result Data ReadError) (o : Outcome spec.Data) → Hands r o → Answers o r
+hands_answer (Err Memory) (given d) h = tt
+hands_answer (Err Memory) (refused f p) h = tt
+hands_answer (Ok value) (given d) h = cc
+hands_answer (Ok value) (refused f p) h = cc
+hands_answer (Err (Refused path fault)) (given d) h = cc
+hands_answer (Err (Refused path fault)) (refused f p) h = (cc, cc)
+
+pub ruleset hands = (hands_value, hands_refusal, hands_answer)
