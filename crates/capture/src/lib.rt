@@ -10,6 +10,8 @@ mod members;
 mod reader;
 mod status;
 mod stream;
+#[cfg(test)]
+mod tests;
 mod words;
 
 pub use command::run;

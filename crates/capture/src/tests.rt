@@ -1,0 +1,174 @@
+//! Worked documents over sources and sinks in memory.
+
+ghost use Rattle.std.specs.Prelude.{◌<◌};
+
+use crate::command::run;
+use data_core::{MemoryOut, MemorySource, Names, SteadySource, Text};
+use std::alloc::Global;
+use std::test::Fail;
+
+fn words(alloc: Global, texts: &[&str]) -> Result<Names, Fail> {
+    let mut names = Names::new(alloc);
+    for text in texts {
+        names.push(Text::new(alloc, text)?).ok().ok_or("no memory")?;
+    }
+    Ok(names)
+}
+
+// The status of a command over these bytes, and what is written.
+fn ended(alloc: Global, texts: &[&str], bytes: &[u8], step: usize) -> Result<(u8, MemoryOut), Fail>
+    requires { 0 < step }
+{
+    let names = words(alloc, texts)?;
+    let mut source = SteadySource::new(alloc, bytes, step)?;
+    let mut out = MemoryOut::new(alloc, 1024, 1024, &[])?;
+    let status = run(alloc, &names, &mut source, &mut out);
+    Ok((status.code(), out))
+}
+
+#[test]
+fn answers_documents(rt: HostRuntime) -> Result<(), Fail> {
+    let table = [
+        (
+            "{\"shape\":\"u8\",\"kind\":\"tree\",\"input\":{\"U8\":7}}",
+            0,
+            "{\"value\":7}\n",
+        ),
+        (
+            "{\"shape\":\"u8\",\"kind\":\"tree\",\"input\":{\"U16\":300}}",
+            1,
+            "{\"at\":\".\",\"fault\":[\"InvalidValue\",\"Unsigned\"],\"path\":[]}\n",
+        ),
+        (
+            "{\"shape\":\"u64\",\"kind\":\"tree\",\"input\":{\"U64\":18446744073709551615}}",
+            0,
+            "{\"value\":18446744073709551615}\n",
+        ),
+        (
+            "{\"shape\":\"i64\",\"kind\":\"tree\",\"input\":{\"I64\":-9223372036854775808}}",
+            0,
+            "{\"value\":-9223372036854775808}\n",
+        ),
+        (
+            "{\"shape\":\"u8\",\"kind\":\"tree\",\"input\":{\"I8\":-1}}",
+            1,
+            "{\"at\":\".\",\"fault\":[\"InvalidValue\",\"Signed\"],\"path\":[]}\n",
+        ),
+        (
+            "{\"shape\":{\"unit_struct\":\"S\"},\"kind\":\"tree\",\"input\":\"Unit\",\"v\":2}",
+            0,
+            "{\"value\":null}\n",
+        ),
+        (
+            "{\"shape\":\"bytes\",\"kind\":\"tree\",\"input\":{\"Bytes\":[0,255]},\"v\":1}",
+            0,
+            "{\"value\":[0,255]}\n",
+        ),
+        (
+            "{\"shape\":\"text\",\"kind\":\"tree\",\"input\":{\"Bytes\":[255]}}",
+            1,
+            "{\"at\":\".\",\"fault\":[\"InvalidValue\",\"Bytes\"],\"path\":[]}\n",
+        ),
+        (
+            "{\"shape\":\"text\",\"kind\":\"tree\",\"input\":{\"Char\":\"\u{e9}\"}}",
+            0,
+            "{\"value\":\"\u{e9}\"}\n",
+        ),
+        (
+            "{\"shape\":\"char\",\"kind\":\"tree\",\"input\":{\"String\":\"ab\"}}",
+            1,
+            "{\"at\":\".\",\"fault\":[\"InvalidValue\",\"Str\"],\"path\":[]}\n",
+        ),
+        (
+            "{\"shape\":\"bool\",\"kind\":\"tree\",\"input\":{\"Char\":\"x\"}}",
+            1,
+            "{\"at\":\".\",\"fault\":[\"InvalidType\",\"Str\"],\"path\":[]}\n",
+        ),
+    ];
+    for (document, status, line) in table {
+        for step in [1, 1000] {
+            let (code, out) = ended(rt.alloc(), &["read"], document.as_bytes(), step)?;
+            assert_eq!(rt; code, status, "{document}");
+            assert_eq!(rt; out.bytes(), line.as_bytes(), "{document}");
+        }
+    }
+    Ok(())
+}
+
+#[test]
+fn refuses_what_is_no_document(rt: HostRuntime) -> Result<(), Fail> {
+    let table = [
+        "",
+        "{\"shape\":\"u8\",\"kind\":\"tree\",\"input\":{\"U8\":7}",
+        "{\"shape\":\"u8\",\"kind\":\"tree\",\"input\":{\"U8\":256}}",
+        "{\"shape\":\"u8\",\"kind\":\"tree\",\"input\":{\"U8\":1.5}}",
+        "{\"shape\":\"u8\",\"kind\":\"tree\",\"input\":{\"I8\":-129}}",
+        "{\"shape\":\"u8\",\"kind\":\"tree\",\"input\":{\"Char\":\"ab\"}}",
+        "{\"shape\":\"u8\",\"kind\":\"tree\",\"input\":{\"Bytes\":[256]}}",
+        "{\"shape\":\"u8\",\"kind\":\"tree\",\"input\":{\"U8\":7,\"U16\":7}}",
+        "{\"shape\":\"u8\",\"kind\":\"tree\",\"input\":{\"U8\":7},\"more\":1}",
+        "{\"shape\":\"u8\",\"kind\":\"tree\",\"input\":{\"U8\":7},\"to\":\"tree\"}",
+        "{\"shape\":\"u8\",\"kind\":\"tree\",\"input\":{\"U8\":7},\"v\":3}",
+        "{\"shape\":\"u7\",\"kind\":\"tree\",\"input\":{\"U8\":7}}",
+        "{\"shape\":\"u8\",\"input\":{\"U8\":7}}",
+        "[]",
+    ];
+    for document in table {
+        let (code, out) = ended(rt.alloc(), &["read"], document.as_bytes(), 1000)?;
+        assert_eq!(rt; code, 3, "{document}");
+        assert_eq!(rt; out.bytes().len(), 0, "{document}");
+    }
+    let (code, _) = ended(rt.alloc(), &["read"], b"\xff", 1)?;
+    assert_eq!(rt; code, 3, "no text");
+    Ok(())
+}
+
+#[test]
+fn settles_the_words_first(rt: HostRuntime) -> Result<(), Fail> {
+    let document = b"{\"shape\":\"u8\",\"kind\":\"tree\",\"input\":{\"U8\":7}}";
+    for first in ["make", "READ", "", "reads"] {
+        let (code, out) = ended(rt.alloc(), &[first], document, 1)?;
+        assert_eq!(rt; code, 2, "{first}");
+        assert_eq!(rt; out.bytes().len(), 0, "{first}");
+    }
+    let (code, _) = ended(rt.alloc(), &["read", "x"], document, 1)?;
+    assert_eq!(rt; code, 2);
+    let (code, _) = ended(rt.alloc(), &[], document, 1)?;
+    assert_eq!(rt; code, 2);
+    Ok(())
+}
+
+#[test]
+fn tells_a_fault_of_the_source(rt: HostRuntime) -> Result<(), Fail> {
+    let document = b"{\"shape\":\"u8\",\"kind\":\"tree\",\"input\":{\"U8\":7}}";
+    let names = words(rt.alloc(), &["read"])?;
+    let mut source = MemorySource::new(rt.alloc(), document, 4, &[2])?;
+    let mut out = MemoryOut::new(rt.alloc(), 12, 5, &[])?;
+    assert_eq!(rt; run(rt.alloc(), &names, &mut source, &mut out).code(), 4);
+    assert_eq!(rt; out.bytes().len(), 0);
+    Ok(())
+}
+
+#[test]
+fn tells_a_fault_of_the_sink(rt: HostRuntime) -> Result<(), Fail> {
+    let document = b"{\"shape\":\"u8\",\"kind\":\"tree\",\"input\":{\"U8\":7}}";
+    let names = words(rt.alloc(), &["read"])?;
+    let mut source = SteadySource::new(rt.alloc(), document, 4)?;
+    let mut out = MemoryOut::new(rt.alloc(), 12, 5, &[2])?;
+    assert_eq!(rt; run(rt.alloc(), &names, &mut source, &mut out).code(), 5);
+    assert_eq!(rt; out.bytes(), b"{\"val".as_slice());
+    Ok(())
+}
+
+#[test]
+fn refuses_a_stream_that_is_too_long(rt: HostRuntime) -> Result<(), Fail> {
+    let names = words(rt.alloc(), &["read"])?;
+    for (length, status) in [(16_777_216, 3), (16_777_217, 7)] {
+        let spaces = vec![in rt.alloc(); b' '; length]?;
+        let mut source = SteadySource::new(rt.alloc(), &spaces, 1 << 20)?;
+        let mut out = MemoryOut::new(rt.alloc(), 12, 5, &[])?;
+        let code = run(rt.alloc(), &names, &mut source, &mut out).code();
+        assert_eq!(rt; code, status, "{length}");
+    }
+    Ok(())
+}
