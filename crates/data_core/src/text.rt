@@ -4,6 +4,7 @@ ghost use Rattle.std.specs.Str.{chars};
 ghost use Rattle.data_core.specs.Only.{only};
 
 use std::alloc::{AllocError, Global};
+use std::borrow::CowStr;
 use std::marker::Model;
 
 /// A text that its holder owns. It stands for a `String` in errors, names and segments.
@@ -70,7 +71,8 @@ pub fn only_char(text: &str) -> Option<char>
     }
 }
 
-/// What a deserializer hands out as a text: one that is owned, or one that is lent by its input.
+/// What a deserializer hands out as a text: one that is owned, one that is lent by its input, or one
+/// of the two.
 pub trait TextLike: Drop {
     ghost text: { Self → List ℕ };
 
@@ -104,6 +106,26 @@ impl TextLike for &str {
 
     fn into_string(self, alloc: Global) -> Result<String, AllocError> {
         String::from_str(alloc, self)
+    }
+}
+
+impl TextLike for CowStr<'_> {
+    ghost use Rattle.std.specs.Cow.{cow_str_bytes};
+
+    ghost text = { cow_str_bytes };
+
+    fn as_str(&self) -> &str {
+        match self {
+            CowStr::Borrowed(text) => *text,
+            CowStr::Owned(text) => text.as_str(),
+        }
+    }
+
+    fn into_string(self, alloc: Global) -> Result<String, AllocError> {
+        match self {
+            CowStr::Borrowed(text) => String::from_str(alloc, text),
+            CowStr::Owned(text) => Ok(text),
+        }
     }
 }
 
@@ -157,6 +179,21 @@ mod tests {
             assert_eq!(rt; text.as_str(), want);
             assert_eq!(rt; copy.into_string().as_str(), want);
         }
+        Ok(())
+    }
+
+    #[test]
+    fn hands_out_texts_and_bytes(rt: HostRuntime) -> Result<(), Fail> {
+        let owned = CowStr::Owned(String::from_str(rt.alloc(), "a")?);
+        assert_eq!(rt; TextLike::as_str(&owned), "a");
+        assert_eq!(rt; owned.into_string(rt.alloc())?.as_str(), "a");
+        let lent: CowStr<'_> = CowStr::Borrowed("b");
+        assert_eq!(rt; TextLike::as_str(&lent), "b");
+        assert_eq!(rt; lent.into_string(rt.alloc())?.as_str(), "b");
+        let bytes: &[u8] = b"c";
+        assert_eq!(rt; bytes.into_vec(rt.alloc())?.as_slice(), b"c".as_slice());
+        assert_eq!(rt; only_char("\u{1f600}"), Some('\u{1f600}'));
+        assert_eq!(rt; only_char("ab"), None);
         Ok(())
     }
 }
