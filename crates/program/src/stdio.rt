@@ -64,3 +64,57 @@ impl<W: Write + Drop> Out for StdOut<W> {
         }
     }
 }
+
+#[cfg(test)]
+mod tests {
+    use super::*;
+    use std::io;
+
+    // It fails at every call, or takes nothing.
+    #[derive(Drop)]
+    struct Broken {
+        takes_nothing: bool,
+    }
+
+    impl Read for Broken {
+        fn read(&mut self, _into: &mut [u8]) -> io::Result<usize> {
+            Err(io::Error::from(io::ErrorKind::Other))
+        }
+    }
+
+    impl Write for Broken {
+        fn write(&mut self, _from: &[u8]) -> io::Result<usize> {
+            if self.takes_nothing {
+                Ok(0)
+            } else {
+                Err(io::Error::from(io::ErrorKind::Other))
+            }
+        }
+
+        fn flush(&mut self) -> io::Result<()> {
+            Ok(())
+        }
+    }
+
+    #[test]
+    fn counts_failures(rt: HostRuntime) {
+        let mut room = [0u8; 4];
+        let mut lent = StdSource::new(b"ab".as_slice());
+        assert!(rt; matches!(lent.read(&mut room), Ok(2)));
+        assert!(rt; matches!(lent.read(&mut room), Ok(0)));
+        assert_eq!(rt; lent.faults, 0);
+        let mut broken = StdSource::new(Broken {
+            takes_nothing: false,
+        });
+        assert!(rt; broken.read(&mut room).is_err());
+        assert_eq!(rt; broken.faults, 1);
+        let mut kept = StdOut::new(Vec::new(rt.alloc()));
+        assert!(rt; matches!(kept.write(b"ab"), Ok(2)));
+        assert_eq!(rt; kept.writer.as_slice(), b"ab".as_slice());
+        for takes_nothing in [true, false] {
+            let mut full = StdOut::new(Broken { takes_nothing });
+            assert!(rt; full.write(b"ab").is_err());
+            assert_eq!(rt; full.faults, 1);
+        }
+    }
+}
