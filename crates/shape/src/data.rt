@@ -18,6 +18,7 @@ pub enum Shape {
     Text,
     Bytes,
     Unit,
+    /// A unit struct, and its name.
     UnitStruct(Text),
 }
 
@@ -25,7 +26,9 @@ pub enum Shape {
 #[derive(Drop)]
 pub enum Data {
     Bool(bool),
+    /// An integer of an unsigned shape, whatever the shape's width.
     Unsigned(u64),
+    /// An integer of a signed shape, whatever the shape's width.
     Signed(i64),
     Char(char),
     Text(Text),

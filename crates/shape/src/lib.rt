@@ -5,6 +5,8 @@ mod data;
 mod reader;
 mod scalars;
 mod seed;
+#[cfg(test)]
+mod tests;
 
 pub use data::{Data, Shape};
 pub use reader::{hint, visit};

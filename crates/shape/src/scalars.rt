@@ -13,6 +13,7 @@ use data_core::{
 };
 use std::alloc::Global;
 
+/// Takes a boolean. A refusal names `bool` as what was expected.
 pub fn visit_bool<D: Deserializer>(alloc: Global, shown: Shown<D>) -> Result<Data, D::Error>
     ensures { Answers D.Error.fault data_view result
         (boolean_of (shown_offer D.Text.text D.Bytes.bytes shown)) }
@@ -23,7 +24,7 @@ pub fn visit_bool<D: Deserializer>(alloc: Global, shown: Shown<D>) -> Result<Dat
     }
 }
 
-/// An integer from 0 up to the greatest.
+/// Takes an integer from 0 up to `greatest`. A refusal names `expected` as what was expected.
 pub fn visit_unsigned<D: Deserializer>(
     alloc: Global,
     shown: Shown<D>,
@@ -46,6 +47,7 @@ pub fn visit_unsigned<D: Deserializer>(
     }
 }
 
+// An unsigned integer up to the greatest.
 fn unsigned<D: Deserializer>(
     alloc: Global,
     n: u64,
@@ -61,6 +63,7 @@ fn unsigned<D: Deserializer>(
     }
 }
 
+// A signed integer from 0 up to the greatest. A refusal shows it as it came, signed.
 fn to_unsigned<D: Deserializer>(
     alloc: Global,
     n: i64,
@@ -75,7 +78,8 @@ fn to_unsigned<D: Deserializer>(
     }
 }
 
-/// An integer from one below the negative of the greatest up to the greatest.
+/// Takes an integer from `-greatest - 1` up to `greatest`. A refusal names `expected` as what was
+/// expected.
 pub fn visit_signed<D: Deserializer>(
     alloc: Global,
     shown: Shown<D>,
@@ -99,6 +103,7 @@ pub fn visit_signed<D: Deserializer>(
     }
 }
 
+// A signed integer in the range that the greatest gives.
 fn signed<D: Deserializer>(
     alloc: Global,
     n: i64,
@@ -125,6 +130,7 @@ fn is_within(n: i64, greatest: u64) -> bool
     }
 }
 
+// An unsigned integer up to the greatest. A refusal shows it as it came, unsigned.
 fn to_signed<D: Deserializer>(
     alloc: Global,
     n: u64,
@@ -141,6 +147,7 @@ fn to_signed<D: Deserializer>(
     }
 }
 
+/// Takes a character, or a text of exactly one. A refusal names `char` as what was expected.
 pub fn visit_char<D: Deserializer>(alloc: Global, shown: Shown<D>) -> Result<Data, D::Error>
     ensures { Answers D.Error.fault data_view result
         (character_of (shown_offer D.Text.text D.Bytes.bytes shown)) }
@@ -152,6 +159,7 @@ pub fn visit_char<D: Deserializer>(alloc: Global, shown: Shown<D>) -> Result<Dat
     }
 }
 
+// The character of a text of exactly one.
 fn char_of_text<D: Deserializer>(alloc: Global, text: &str) -> Result<Data, D::Error>
     ensures { Answers D.Error.fault data_view result (character_of (scalar (offer.text text.now))) }
 {
@@ -161,6 +169,7 @@ fn char_of_text<D: Deserializer>(alloc: Global, text: &str) -> Result<Data, D::E
     }
 }
 
+/// Takes a text, a character, or bytes that are UTF-8. What is owned is moved, and else copied.
 pub fn visit_text<D: Deserializer>(alloc: Global, shown: Shown<D>) -> Result<Data, D::Error>
     ensures { Answers D.Error.fault data_view result
         (text_of (shown_offer D.Text.text D.Bytes.bytes shown)) }
@@ -179,6 +188,7 @@ pub fn visit_text<D: Deserializer>(alloc: Global, shown: Shown<D>) -> Result<Dat
     }
 }
 
+// A character as the text of it alone.
 fn text_of_char<D: Deserializer>(alloc: Global, c: char) -> Result<Data, D::Error>
     ensures { Answers D.Error.fault data_view result (text_of (scalar (offer.character c))) }
 {
@@ -189,6 +199,7 @@ fn text_of_char<D: Deserializer>(alloc: Global, c: char) -> Result<Data, D::Erro
     Ok(Data::Text(Text::from_string(text)))
 }
 
+// Bytes as the text that they spell. They are moved.
 fn text_of_bytes<D: Deserializer>(alloc: Global, bytes: Vec<u8>) -> Result<Data, D::Error>
     ensures { Answers D.Error.fault data_view result (text_of (scalar (offer.bytes bytes.items))) }
 {
@@ -201,6 +212,7 @@ fn text_of_bytes<D: Deserializer>(alloc: Global, bytes: Vec<u8>) -> Result<Data,
     }
 }
 
+/// Takes bytes, and no text. What is owned is moved, and else copied.
 pub fn visit_bytes<D: Deserializer>(alloc: Global, shown: Shown<D>) -> Result<Data, D::Error>
     ensures { Answers D.Error.fault data_view result
         (bytes_of (shown_offer D.Text.text D.Bytes.bytes shown)) }
@@ -214,6 +226,7 @@ pub fn visit_bytes<D: Deserializer>(alloc: Global, shown: Shown<D>) -> Result<Da
     }
 }
 
+/// Takes the unit. A refusal names `expected` as what was expected.
 pub fn visit_unit<D: Deserializer>(
     alloc: Global,
     shown: Shown<D>,

@@ -1,0 +1,301 @@
+//! Shapes that are read from one scalar each. The wanted values are those of serde's own readers,
+//! except that bytes are read from no text.
+ghost use Rattle.std.specs.Prelude.{Option, Some, None, false, string_bytes};
+ghost use Rattle.data_core.specs.declared.fault.Fault as code;
+ghost use Rattle.data_core.specs.Source.{source, scalar};
+ghost use Rattle.data_core.specs.Show.{scalar_view};
+
+use crate::{Data, Shape, ShapeSeed, hint};
+use data_core::{
+    DeError, DeserializeSeed, Deserializer, Fault, Hint, Names, Scalar, Shown, Text, Track,
+    Unexpected,
+};
+use std::alloc::{AllocError, Global};
+use std::test::Fail;
+
+#[derive(Drop)]
+enum ScalarError {
+    Refused(Fault),
+    Memory,
+}
+
+// A scalar has no names to be refused: such a fault is kept as want of memory, which any may be.
+impl DeError for ScalarError {
+    ghost use Rattle.shape.specs.declared.tests.ScalarError.TheVariants as error;
+
+    ghost fault = { λ e. elim e as (λ _. Option code.Fault) [ error.Refused f ↦ Some f | error.Memory ↦ None ] };
+
+    fn memory() -> ScalarError {
+        ScalarError::Memory
+    }
+
+    fn custom(_alloc: Global, _msg: &str) -> ScalarError {
+        ScalarError::Refused(Fault::Custom)
+    }
+
+    fn invalid_type(_alloc: Global, unexp: Unexpected<'_>, _exp: &str) -> ScalarError {
+        ScalarError::Refused(Fault::InvalidType(unexp.kind()))
+    }
+
+    fn invalid_value(_alloc: Global, unexp: Unexpected<'_>, _exp: &str) -> ScalarError {
+        ScalarError::Refused(Fault::InvalidValue(unexp.kind()))
+    }
+
+    fn invalid_length(_alloc: Global, len: usize, _exp: &str) -> ScalarError {
+        ScalarError::Refused(Fault::InvalidLength(len))
+    }
+
+    fn unknown_variant(_alloc: Global, _variant: &str, _expected: &Names) -> ScalarError {
+        ScalarError::Memory
+    }
+
+    fn unknown_field(_alloc: Global, _field: &str, _expected: &Names) -> ScalarError {
+        ScalarError::Memory
+    }
+
+    fn missing_field(_alloc: Global, _field: &str) -> ScalarError {
+        ScalarError::Memory
+    }
+
+    fn duplicate_field(_alloc: Global, _field: &str) -> ScalarError {
+        ScalarError::Memory
+    }
+
+    fn into_fault(self) -> Option<Fault> {
+        match self {
+            ScalarError::Refused(fault) => Some(fault),
+            ScalarError::Memory => None,
+        }
+    }
+}
+
+// A deserializer over one scalar, which it shows whatever is hoped for.
+#[derive(Drop)]
+struct OneScalar {
+    scalar: Scalar<String, Vec<u8>>,
+}
+
+impl Deserializer for OneScalar {
+    type Error = ScalarError;
+
+    type Text = String;
+
+    type Bytes = Vec<u8>;
+
+    ghost tracks = { false };
+
+    ghost source = { λ d. source (λ _. scalar (scalar_view string_bytes (λ b. b.items) d.scalar)) };
+
+    fn show(self, _hint: Hint<'_>) -> Result<Shown<OneScalar>, ScalarError> {
+        Ok(Shown::Scalar(self.scalar))
+    }
+}
+
+fn text(alloc: Global, text: &str) -> Result<Scalar<String, Vec<u8>>, AllocError> {
+    Ok(Scalar::Text(String::from_str(alloc, text)?))
+}
+
+fn bytes(alloc: Global, bytes: &[u8]) -> Result<Scalar<String, Vec<u8>>, AllocError> {
+    Ok(Scalar::Bytes(Vec::from_slice(alloc, bytes)?))
+}
+
+fn unit_struct(alloc: Global, name: &str) -> Result<Shape, AllocError> {
+    Ok(Shape::UnitStruct(Text::new(alloc, name)?))
+}
+
+fn data_text(alloc: Global, data: Data) -> Result<String, AllocError> {
+    match data {
+        Data::Bool(b) => format!(in alloc; "bool {b}"),
+        Data::Unsigned(n) => format!(in alloc; "unsigned {n}"),
+        Data::Signed(n) => format!(in alloc; "signed {n}"),
+        Data::Char(c) => format!(in alloc; "char {c}"),
+        Data::Text(text) => format!(in alloc; "text {}", text.as_str()),
+        Data::Bytes(bytes) => format!(in alloc; "bytes {bytes:?}"),
+        Data::Unit => String::from_str(alloc, "unit"),
+    }
+}
+
+fn error_text(alloc: Global, error: ScalarError) -> Result<String, AllocError> {
+    match error.into_fault() {
+        Some(Fault::InvalidType(kind)) => format!(in alloc; "InvalidType {}", kind.as_str()),
+        Some(Fault::InvalidValue(kind)) => format!(in alloc; "InvalidValue {}", kind.as_str()),
+        Some(_) => String::from_str(alloc, "another"),
+        None => Err(AllocError),
+    }
+}
+
+// What is read from the scalar by the shape, as a text.
+fn read(
+    alloc: Global,
+    shape: &Shape,
+    scalar: Scalar<String, Vec<u8>>,
+) -> Result<String, AllocError> {
+    let mut track = Track::new(alloc);
+    match ShapeSeed::new(shape).deserialize(alloc, OneScalar { scalar }, &mut track) {
+        Ok(data) => data_text(alloc, data),
+        Err(error) => error_text(alloc, error),
+    }
+}
+
+#[test]
+fn unsigned_integers_keep_their_range(rt: HostRuntime) -> Result<(), Fail> {
+    let table = [
+        (Shape::U8, Scalar::U8(0), "unsigned 0"),
+        (Shape::U8, Scalar::U8(255), "unsigned 255"),
+        (Shape::U8, Scalar::I8(-1), "InvalidValue Signed"),
+        (Shape::U8, Scalar::U16(256), "InvalidValue Unsigned"),
+        (Shape::U16, Scalar::U16(0), "unsigned 0"),
+        (Shape::U16, Scalar::U16(65535), "unsigned 65535"),
+        (Shape::U16, Scalar::I16(-1), "InvalidValue Signed"),
+        (Shape::U16, Scalar::U32(65536), "InvalidValue Unsigned"),
+        (Shape::U32, Scalar::U32(0), "unsigned 0"),
+        (Shape::U32, Scalar::U32(4294967295), "unsigned 4294967295"),
+        (Shape::U32, Scalar::I32(-1), "InvalidValue Signed"),
+        (Shape::U32, Scalar::U64(4294967296), "InvalidValue Unsigned"),
+        (Shape::U64, Scalar::U64(0), "unsigned 0"),
+        (
+            Shape::U64,
+            Scalar::U64(18446744073709551615),
+            "unsigned 18446744073709551615",
+        ),
+        (Shape::U64, Scalar::I64(-1), "InvalidValue Signed"),
+        (
+            Shape::U64,
+            Scalar::U128(18446744073709551616),
+            "InvalidType Other",
+        ),
+    ];
+    for (shape, scalar, want) in table {
+        assert_eq!(rt; read(rt.alloc(), &shape, scalar)?.as_str(), want);
+    }
+    Ok(())
+}
+
+#[test]
+fn signed_integers_keep_their_range(rt: HostRuntime) -> Result<(), Fail> {
+    let table = [
+        (Shape::I8, Scalar::I8(-128), "signed -128"),
+        (Shape::I8, Scalar::I8(127), "signed 127"),
+        (Shape::I8, Scalar::I16(-129), "InvalidValue Signed"),
+        (Shape::I8, Scalar::U8(128), "InvalidValue Unsigned"),
+        (Shape::I16, Scalar::I16(-32768), "signed -32768"),
+        (Shape::I16, Scalar::I16(32767), "signed 32767"),
+        (Shape::I16, Scalar::I32(-32769), "InvalidValue Signed"),
+        (Shape::I16, Scalar::U16(32768), "InvalidValue Unsigned"),
+        (Shape::I32, Scalar::I32(-2147483648), "signed -2147483648"),
+        (Shape::I32, Scalar::I32(2147483647), "signed 2147483647"),
+        (Shape::I32, Scalar::I64(-2147483649), "InvalidValue Signed"),
+        (Shape::I32, Scalar::U32(2147483648), "InvalidValue Unsigned"),
+        (
+            Shape::I64,
+            Scalar::I64(-9223372036854775808),
+            "signed -9223372036854775808",
+        ),
+        (
+            Shape::I64,
+            Scalar::I64(9223372036854775807),
+            "signed 9223372036854775807",
+        ),
+        (
+            Shape::I64,
+            Scalar::I128(-9223372036854775809),
+            "InvalidType Other",
+        ),
+        (
+            Shape::I64,
+            Scalar::U64(9223372036854775808),
+            "InvalidValue Unsigned",
+        ),
+    ];
+    for (shape, scalar, want) in table {
+        assert_eq!(rt; read(rt.alloc(), &shape, scalar)?.as_str(), want);
+    }
+    Ok(())
+}
+
+#[test]
+fn characters_texts_and_bytes(rt: HostRuntime) -> Result<(), Fail> {
+    let alloc = rt.alloc();
+    let table = [
+        (Shape::Char, Scalar::Char('ß'), "char ß"),
+        (Shape::Char, text(alloc, "😀")?, "char 😀"),
+        (Shape::Char, text(alloc, "\u{301}")?, "char \u{301}"),
+        (Shape::Char, text(alloc, "e\u{301}")?, "InvalidValue Str"),
+        (Shape::Char, text(alloc, "")?, "InvalidValue Str"),
+        (Shape::Text, text(alloc, "größer")?, "text größer"),
+        (Shape::Text, Scalar::Char('😀'), "text 😀"),
+        (Shape::Text, bytes(alloc, "ß".as_bytes())?, "text ß"),
+        (Shape::Text, bytes(alloc, &[255])?, "InvalidValue Bytes"),
+        (Shape::Bytes, bytes(alloc, &[255])?, "bytes [255]"),
+        (Shape::Bytes, text(alloc, "t")?, "InvalidType Str"),
+    ];
+    for (shape, scalar, want) in table {
+        assert_eq!(rt; read(alloc, &shape, scalar)?.as_str(), want);
+    }
+    Ok(())
+}
+
+#[test]
+fn booleans_and_units(rt: HostRuntime) -> Result<(), Fail> {
+    let alloc = rt.alloc();
+    let table = [
+        (Shape::Bool, Scalar::Bool(true), "bool true"),
+        (Shape::Bool, Scalar::U8(1), "InvalidType Unsigned"),
+        (Shape::Unit, Scalar::Unit, "unit"),
+        (Shape::Unit, Scalar::None, "InvalidType Option"),
+        (unit_struct(alloc, "Marker")?, Scalar::Unit, "unit"),
+        (
+            unit_struct(alloc, "Marker")?,
+            Scalar::Bool(true),
+            "InvalidType Bool",
+        ),
+    ];
+    for (shape, scalar, want) in table {
+        assert_eq!(rt; read(alloc, &shape, scalar)?.as_str(), want);
+    }
+    Ok(())
+}
+
+fn hint_name<'a>(hint: Hint<'a>) -> &'a str {
+    match hint {
+        Hint::Bool => "bool",
+        Hint::I8 => "i8",
+        Hint::I16 => "i16",
+        Hint::I32 => "i32",
+        Hint::I64 => "i64",
+        Hint::U8 => "u8",
+        Hint::U16 => "u16",
+        Hint::U32 => "u32",
+        Hint::U64 => "u64",
+        Hint::Char => "char",
+        Hint::String => "string",
+        Hint::ByteBuf => "byte_buf",
+        Hint::Unit => "unit",
+        Hint::UnitStruct(name) => name,
+        _ => "another",
+    }
+}
+
+#[test]
+fn hopes_for_its_own_kind(rt: HostRuntime) -> Result<(), Fail> {
+    let table = [
+        (Shape::Bool, "bool"),
+        (Shape::I8, "i8"),
+        (Shape::I16, "i16"),
+        (Shape::I32, "i32"),
+        (Shape::I64, "i64"),
+        (Shape::U8, "u8"),
+        (Shape::U16, "u16"),
+        (Shape::U32, "u32"),
+        (Shape::U64, "u64"),
+        (Shape::Char, "char"),
+        (Shape::Text, "string"),
+        (Shape::Bytes, "byte_buf"),
+        (Shape::Unit, "unit"),
+        (unit_struct(rt.alloc(), "Marker")?, "Marker"),
+    ];
+    for (shape, want) in table {
+        assert_eq!(rt; hint_name(hint(&shape)), want);
+    }
+    Ok(())
+}
