@@ -21,6 +21,7 @@ pub data Ask : Type 0 where
   string : Ask
   bytes : Ask
   byte_buf : Ask
+  option : Ask
   unit : Ask
   unit_struct : List ℕ → Ask
   identifier : Ask
@@ -44,6 +45,7 @@ ask hints.Str = str
 ask hints.String = string
 ask hints.Bytes = bytes
 ask hints.ByteBuf = byte_buf
+ask hints.Option = option
 ask hints.Unit = unit
 ask (hints.UnitStruct name) = unit_struct name.now
 ask hints.Identifier = identifier

@@ -3,8 +3,8 @@ use Rattle.std.specs.Prelude.{ℕ, ℤ, List, Bool}
 use Rattle.data_core.specs.declared.fault.Fault.TheVariants.{Custom}
 use Rattle.data_core.specs.Ask.{Ask}
 use Rattle.data_core.specs.Ask as asks
-use Rattle.data_core.specs.Source.{Scalar, unsigned, signed, Offer, scalar, refused, Source, source}
-use Rattle.data_core.specs.Source as as_scalar
+use Rattle.data_core.specs.Source.{unsigned, signed, Offer, scalar, some_itself, refused, Source, source}
+use Rattle.data_core.specs.Source as spec
 
 pub data Node : Type 0 where
   boolean : Bool → Node
@@ -19,30 +19,42 @@ pub data Node : Type 0 where
   character : ℕ → Node
   string : List ℕ → Node
   unit : Node
+  none : Node
+  some : Node → Node
   bytes : List ℕ → Node
 
--- the scalar that a node is
-abbrev pub scalar_of : Node → Scalar
-scalar_of (boolean b) = as_scalar.boolean b
-scalar_of (u8 n) = unsigned n
-scalar_of (u16 n) = unsigned n
-scalar_of (u32 n) = unsigned n
-scalar_of (u64 n) = unsigned n
-scalar_of (i8 z) = signed z
-scalar_of (i16 z) = signed z
-scalar_of (i32 z) = signed z
-scalar_of (i64 z) = signed z
-scalar_of (character c) = as_scalar.character c
-scalar_of (string t) = as_scalar.text t
-scalar_of unit = as_scalar.unit
-scalar_of (bytes b) = as_scalar.bytes b
+-- at an option's ask the first offer, at every other the second; an integer of 128 bits is never there
+abbrev pub by_ask : Offer → Offer → Ask → Offer
+by_ask wrapped plain asks.option = wrapped
+by_ask wrapped plain asks.i128 = refused Custom
+by_ask wrapped plain asks.u128 = refused Custom
+by_ask wrapped plain _ = plain
 
--- an integer of 128 bits is never there
-abbrev pub unless_wide : Offer → Ask → Offer
-unless_wide plain asks.i128 = refused Custom
-unless_wide plain asks.u128 = refused Custom
-unless_wide plain _ = plain
+abbrev mutual
+  -- a node as it is
+  pub plain : Node → Offer
+  plain (boolean b) = scalar (spec.boolean b)
+  plain (u8 n) = scalar (unsigned n)
+  plain (u16 n) = scalar (unsigned n)
+  plain (u32 n) = scalar (unsigned n)
+  plain (u64 n) = scalar (unsigned n)
+  plain (i8 z) = scalar (signed z)
+  plain (i16 z) = scalar (signed z)
+  plain (i32 z) = scalar (signed z)
+  plain (i64 z) = scalar (signed z)
+  plain (character c) = scalar (spec.character c)
+  plain (string t) = scalar (spec.text t)
+  plain unit = scalar spec.unit
+  plain none = scalar spec.none
+  plain (some n) = spec.some (source (by_ask (wrapped n) (plain n)))
+  plain (bytes b) = scalar (spec.bytes b)
 
--- a node is shown as it is
+  -- as an option: nothing and a unit are nothing, and any other node is a value of itself
+  pub wrapped : Node → Offer
+  wrapped unit = scalar spec.unit
+  wrapped none = scalar spec.none
+  wrapped (some n) = spec.some (source (by_ask (wrapped n) (plain n)))
+  wrapped n = some_itself
+
 abbrev pub of_node : Node → Source
-of_node n = source (unless_wide (scalar (scalar_of n)))
+of_node n = source (by_ask (wrapped n) (plain n))

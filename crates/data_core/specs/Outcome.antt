@@ -11,6 +11,11 @@ pub data Outcome (A : Type 0) : Type 0 where
   given : A → Outcome A
   refused : Fault → List Segment → Outcome A
 
+-- an outcome that the next step goes on from
+abbrev pub and_then : {A B : Type 0} → Outcome A → (A → Outcome B) → Outcome B
+and_then (given a) next = next a
+and_then (refused f path) next = refused f path
+
 -- what a reader does not take is refused where it stands
 abbrev pub not_taken : {A : Type 0} → Offer → Outcome A
 not_taken offer = refused (fault_of offer) []

@@ -34,10 +34,11 @@ Refuses (Some f) offer = offer ≡ spec.refused f
 
 module _ {D E T B : Type 0} where
   -- the offer that was shown
-  abbrev pub shown_offer : (T → List ℕ) → (B → List ℕ) → Shown D E T B → Offer
-  shown_offer text bytes (shown.Scalar s) = spec.scalar (scalar_view text bytes s)
+  abbrev pub shown_offer : (T → List ℕ) → (B → List ℕ) → (D → Source) → Shown D E T B → Offer
+  shown_offer text bytes source (shown.Scalar s) = spec.scalar (scalar_view text bytes s)
+  shown_offer text bytes source (shown.Some d) = spec.some (source d)
 
   -- what a call shows is this offer
-  abbrev pub Shows : (T → List ℕ) → (B → List ℕ) → (E → Option Fault) → Result (Shown D E T B) E → Offer → Type 0
-  Shows text bytes fault (Ok s) offer = shown_offer text bytes s ≡ offer
-  Shows text bytes fault (Err e) offer = Refuses (fault e) offer
+  abbrev pub Shows : (T → List ℕ) → (B → List ℕ) → (D → Source) → (E → Option Fault) → Result (Shown D E T B) E → Offer → Type 0
+  Shows text bytes source fault (Ok s) offer = shown_offer text bytes source s ≡ offer
+  Shows text bytes source fault (Err e) offer = Refuses (fault e) offer

@@ -16,13 +16,24 @@ pub data Scalar : Type 0 where
   none : Scalar
   unit : Scalar
 
-pub data Offer : Type 0 where
-  scalar : Scalar → Offer
-  refused : Fault → Offer
+mutual
+  pub data Source : Type 0 where
+    source : (Ask → Offer) → Source
 
-pub data Source : Type 0 where
-  source : (Ask → Offer) → Source
+  -- some_itself: an option whose inside is the very source that was asked
+  pub data Offer : Type 0 where
+    scalar : Scalar → Offer
+    some_itself : Offer
+    some : Source → Offer
+    refused : Fault → Offer
+
+-- an offer with the mark for the source itself filled in
+abbrev pub resolved : Source → Offer → Offer
+resolved self (scalar s) = scalar s
+resolved self some_itself = some self
+resolved self (some s) = some s
+resolved self (refused f) = refused f
 
 -- what a source offers
 abbrev pub offer_of : Source → Ask → Offer
-offer_of (source offers) a = offers a
+offer_of (source offers) a = resolved (source offers) (offers a)

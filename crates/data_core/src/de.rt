@@ -45,7 +45,7 @@ pub trait Deserializer: Drop {
 
     /// What is there, for a reader that hopes for `hint`.
     fn show(self, hint: Hint<'_>) -> Result<Shown<Self>, Self::Error>
-        ensures shows { Shows Self.Text.text Self.Bytes.bytes Self.Error.fault result
+        ensures shows { Shows Self.Text.text Self.Bytes.bytes source Self.Error.fault result
             (offer_of (source self) (ask hint.entry)) };
 }
 
@@ -53,4 +53,6 @@ pub trait Deserializer: Drop {
 #[derive(Drop)]
 pub enum Shown<D: Deserializer> {
     Scalar(Scalar<D::Text, D::Bytes>),
+    /// An option that is there, and its inside.
+    Some(D),
 }

@@ -1,7 +1,7 @@
 //! What a reader asks a deserializer for.
 
 /// What a reader hopes for: one variant for each of serde's `deserialize_` calls that asks for a
-/// scalar. A deserializer whose format says what it holds may show something else.
+/// scalar or an option. A deserializer whose format says what it holds may show something else.
 #[derive(Clone, Copy)]
 pub enum Hint<'a> {
     Any,
@@ -21,6 +21,7 @@ pub enum Hint<'a> {
     String,
     Bytes,
     ByteBuf,
+    Option,
     Unit,
     UnitStruct(&'a str),
     Identifier,

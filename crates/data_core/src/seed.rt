@@ -32,7 +32,7 @@ pub trait DeserializeSeed: Drop + Sized {
         track: &mut Track,
     ) -> Result<Self::Value, D::Error>
         ensures { Among D.Error.fault D.tracks result
-            (reads self (shown_offer D.Text.text D.Bytes.bytes shown)) track.old track.new };
+            (reads self (shown_offer D.Text.text D.Bytes.bytes D.source shown)) track.old track.new };
 
     ghost passes_refusals: { PassesRefusals reads };
 
