@@ -8,8 +8,8 @@ use Rattle.data_core.specs.Ask as ask
 use Rattle.data_core.specs.Ask.{Ask}
 use Rattle.data_core.specs.Source.{Source, Offer, scalar, offer_of}
 use Rattle.data_core.specs.Source as offer
-use Rattle.data_core.specs.Outcome.{Outcome, given, refused, not_taken}
-use Rattle.shape.specs.Shape.{Shape, boolean, u8, u16, u32, u64, i8, i16, i32, i64, character, text, bytes, unit, unit_struct, Data, boolean_data, unsigned, signed, character_data, text_data, bytes_data, unit_data}
+use Rattle.data_core.specs.Outcome.{Outcome, given, refused, and_then, not_taken}
+use Rattle.shape.specs.Shape.{Shape, boolean, u8, u16, u32, u64, i8, i16, i32, i64, character, text, bytes, unit, unit_struct, option, Data, boolean_data, unsigned, signed, character_data, text_data, bytes_data, unit_data, nothing, something}
 
 -- what a shape hopes for
 abbrev pub asks : Shape → Ask
@@ -27,6 +27,7 @@ asks text = ask.string
 asks bytes = ask.byte_buf
 asks unit = ask.unit
 asks (unit_struct name) = ask.unit_struct name
+asks (option a) = ask.option
 
 -- the boolean, and nothing else
 abbrev pub boolean_of : Offer → Outcome Data
@@ -79,6 +80,13 @@ abbrev pub unit_of : Offer → Outcome Data
 unit_of (scalar offer.unit) = given unit_data
 unit_of o = not_taken o
 
+-- nothing for what is absent or a unit, and else something of what the inside is read as
+abbrev pub option_of : (Source → Outcome Data) → Offer → Outcome Data
+option_of read (scalar offer.none) = given nothing
+option_of read (scalar offer.unit) = given nothing
+option_of read (offer.some s) = and_then (read s) (λ d. given (something d))
+option_of read o = not_taken o
+
 -- what a shape makes of an offer
 abbrev pub visited : Shape → Offer → Outcome Data
 visited boolean o = boolean_of o
@@ -95,6 +103,7 @@ visited text o = text_of o
 visited bytes o = bytes_of o
 visited unit o = unit_of o
 visited (unit_struct name) o = unit_of o
+visited (option a) o = option_of (λ s. visited a (offer_of s (asks a))) o
 
 abbrev pub first : Shape → Source → Outcome Data
 first a s = visited a (offer_of s (asks a))

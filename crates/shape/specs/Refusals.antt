@@ -3,7 +3,7 @@ use Rattle.std.proofs.Common.{◌≡◌, [], refl}
 use Rattle.data_core.specs.declared.fault.Fault.{Fault}
 use Rattle.data_core.specs.Source as offer
 use Rattle.data_core.specs.Outcome.{refused}
-use Rattle.shape.specs.Shape.{Shape, boolean, u8, u16, u32, u64, i8, i16, i32, i64, character, text, bytes, unit, unit_struct}
+use Rattle.shape.specs.Shape.{Shape, boolean, u8, u16, u32, u64, i8, i16, i32, i64, character, text, bytes, unit, unit_struct, option}
 use Rattle.shape.specs.First.{visited}
 
 pub visited_refused : (a : Shape) (f : Fault) → visited a (offer.refused f) ≡ refused f []
@@ -21,3 +21,4 @@ visited_refused text f = refl
 visited_refused bytes f = refl
 visited_refused unit f = refl
 visited_refused (unit_struct name) f = refl
+visited_refused (option a) f = refl

@@ -16,6 +16,7 @@ pub data Shape : Type 0 where
   bytes : Shape
   unit : Shape
   unit_struct : List ℕ → Shape
+  option : Shape → Shape
 
 pub data Data : Type 0 where
   boolean_data : Bool → Data
@@ -25,3 +26,5 @@ pub data Data : Type 0 where
   text_data : List ℕ → Data
   bytes_data : List ℕ → Data
   unit_data : Data
+  nothing : Data
+  something : Data → Data

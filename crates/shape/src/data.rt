@@ -20,6 +20,7 @@ pub enum Shape {
     Unit,
     /// A unit struct, and its name.
     UnitStruct(Text),
+    Option(Box<Shape>),
 }
 
 /// What is read by a shape. It is this project's own.
@@ -34,4 +35,5 @@ pub enum Data {
     Text(Text),
     Bytes(Vec<u8>),
     Unit,
+    Option(Option<Box<Data>>),
 }

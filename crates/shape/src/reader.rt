@@ -3,14 +3,14 @@ ghost use Rattle.std.specs.Prelude.{◌≡◌};
 ghost use Rattle.data_core.specs.Ask.{ask};
 ghost use Rattle.data_core.specs.Show.{shown_offer};
 ghost use Rattle.data_core.specs.Outcome.{Gives};
-ghost use Rattle.shape.specs.First.{asks, visited};
+ghost use Rattle.shape.specs.First.{asks, visited, first, option_of};
 ghost use Rattle.shape.specs.View.{shape_view, data_view};
 
 use crate::data::{Data, Shape};
 use crate::scalars::{
     visit_bool, visit_bytes, visit_char, visit_signed, visit_text, visit_unit, visit_unsigned,
 };
-use data_core::{Deserializer, Hint, Shown, Track};
+use data_core::{DeError, Deserializer, Hint, Scalar, Shown, Track, refused};
 use std::alloc::Global;
 
 /// What a shape hopes for.
@@ -32,11 +32,30 @@ pub fn hint(shape: &Shape) -> Hint<'_>
         Shape::Bytes => Hint::ByteBuf,
         Shape::Unit => Hint::Unit,
         Shape::UnitStruct(name) => Hint::UnitStruct(name.as_str()),
+        Shape::Option(_) => Hint::Option,
     }
+}
+
+/// Reads data of a shape. `track` then holds the path of a refusal, if `D` tracks and no path was
+/// held before.
+#[cycle(read)]
+#[tactic(auto, using(crate::specs::Refusals::visited_refused))]
+fn read<D: Deserializer>(
+    alloc: Global,
+    shape: &Shape,
+    d: D,
+    track: &mut Track,
+) -> Result<Data, D::Error>
+    ensures { Gives D.Error.fault D.tracks data_view result
+        (first (shape_view shape.now) (D.source d)) track.old track.new }
+{
+    let shown = d.show(hint(shape))?;
+    visit(alloc, shape, shown, track)
 }
 
 /// Makes data of a shape of what is shown. `track` then holds the path of a refusal, if `D` tracks
 /// and no path was held before.
+#[cycle(read)]
 pub fn visit<D: Deserializer>(
     alloc: Global,
     shape: &Shape,
@@ -44,7 +63,7 @@ pub fn visit<D: Deserializer>(
     track: &mut Track,
 ) -> Result<Data, D::Error>
     ensures { Gives D.Error.fault D.tracks data_view result
-        (visited (shape_view shape.now) (shown_offer D.Text.text D.Bytes.bytes shown))
+        (visited (shape_view shape.now) (shown_offer D.Text.text D.Bytes.bytes D.source shown))
         track.old track.new }
 {
     match shape {
@@ -62,5 +81,30 @@ pub fn visit<D: Deserializer>(
         Shape::Bytes => visit_bytes(alloc, shown),
         Shape::Unit => visit_unit(alloc, shown, "unit"),
         Shape::UnitStruct(_) => visit_unit(alloc, shown, "unit struct"),
+        Shape::Option(inner) => visit_option(alloc, inner, shown, track),
+    }
+}
+
+#[cycle(read)]
+fn visit_option<D: Deserializer>(
+    alloc: Global,
+    inner: &Shape,
+    shown: Shown<D>,
+    track: &mut Track,
+) -> Result<Data, D::Error>
+    ensures { Gives D.Error.fault D.tracks data_view result
+        (option_of (first (shape_view inner.now)) (shown_offer D.Text.text D.Bytes.bytes D.source shown))
+        track.old track.new }
+{
+    match shown {
+        Shown::Scalar(Scalar::None | Scalar::Unit) => Ok(Data::Option(None)),
+        Shown::Some(d) => {
+            let value = read(alloc, inner, d, track)?;
+            match Box::new(alloc, value) {
+                Ok(value) => Ok(Data::Option(Some(value))),
+                Err(_) => Err(D::Error::memory()),
+            }
+        }
+        other => Err(refused(alloc, other, "option")),
     }
 }

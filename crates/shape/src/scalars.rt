@@ -16,7 +16,7 @@ use std::alloc::Global;
 /// Takes a boolean. A refusal names `bool` as what was expected.
 pub fn visit_bool<D: Deserializer>(alloc: Global, shown: Shown<D>) -> Result<Data, D::Error>
     ensures { Answers D.Error.fault data_view result
-        (boolean_of (shown_offer D.Text.text D.Bytes.bytes shown)) }
+        (boolean_of (shown_offer D.Text.text D.Bytes.bytes D.source shown)) }
 {
     match shown {
         Shown::Scalar(Scalar::Bool(b)) => Ok(Data::Bool(b)),
@@ -32,7 +32,7 @@ pub fn visit_unsigned<D: Deserializer>(
     expected: &str,
 ) -> Result<Data, D::Error>
     ensures { Answers D.Error.fault data_view result
-        (unsigned_of greatest (shown_offer D.Text.text D.Bytes.bytes shown)) }
+        (unsigned_of greatest (shown_offer D.Text.text D.Bytes.bytes D.source shown)) }
 {
     match shown {
         Shown::Scalar(Scalar::U8(n)) => unsigned::<D>(alloc, u64::from(n), greatest, expected),
@@ -88,7 +88,7 @@ pub fn visit_signed<D: Deserializer>(
 ) -> Result<Data, D::Error>
     requires { greatest < 2 ^ 63 }
     ensures { Answers D.Error.fault data_view result
-        (signed_of greatest (shown_offer D.Text.text D.Bytes.bytes shown)) }
+        (signed_of greatest (shown_offer D.Text.text D.Bytes.bytes D.source shown)) }
 {
     match shown {
         Shown::Scalar(Scalar::I8(n)) => signed::<D>(alloc, i64::from(n), greatest, expected),
@@ -150,7 +150,7 @@ fn to_signed<D: Deserializer>(
 /// Takes a character, or a text of exactly one. A refusal names `char` as what was expected.
 pub fn visit_char<D: Deserializer>(alloc: Global, shown: Shown<D>) -> Result<Data, D::Error>
     ensures { Answers D.Error.fault data_view result
-        (character_of (shown_offer D.Text.text D.Bytes.bytes shown)) }
+        (character_of (shown_offer D.Text.text D.Bytes.bytes D.source shown)) }
 {
     match shown {
         Shown::Scalar(Scalar::Char(c)) => Ok(Data::Char(c)),
@@ -172,7 +172,7 @@ fn char_of_text<D: Deserializer>(alloc: Global, text: &str) -> Result<Data, D::E
 /// Takes a text, a character, or bytes that are UTF-8. What is owned is moved, and else copied.
 pub fn visit_text<D: Deserializer>(alloc: Global, shown: Shown<D>) -> Result<Data, D::Error>
     ensures { Answers D.Error.fault data_view result
-        (text_of (shown_offer D.Text.text D.Bytes.bytes shown)) }
+        (text_of (shown_offer D.Text.text D.Bytes.bytes D.source shown)) }
 {
     match shown {
         Shown::Scalar(Scalar::Text(text)) => match text.into_string(alloc) {
@@ -215,7 +215,7 @@ fn text_of_bytes<D: Deserializer>(alloc: Global, bytes: Vec<u8>) -> Result<Data,
 /// Takes bytes, and no text. What is owned is moved, and else copied.
 pub fn visit_bytes<D: Deserializer>(alloc: Global, shown: Shown<D>) -> Result<Data, D::Error>
     ensures { Answers D.Error.fault data_view result
-        (bytes_of (shown_offer D.Text.text D.Bytes.bytes shown)) }
+        (bytes_of (shown_offer D.Text.text D.Bytes.bytes D.source shown)) }
 {
     match shown {
         Shown::Scalar(Scalar::Bytes(bytes)) => match bytes.into_vec(alloc) {
@@ -233,7 +233,7 @@ pub fn visit_unit<D: Deserializer>(
     expected: &str,
 ) -> Result<Data, D::Error>
     ensures { Answers D.Error.fault data_view result
-        (unit_of (shown_offer D.Text.text D.Bytes.bytes shown)) }
+        (unit_of (shown_offer D.Text.text D.Bytes.bytes D.source shown)) }
 {
     match shown {
         Shown::Scalar(Scalar::Unit) => Ok(Data::Unit),
