@@ -6,9 +6,9 @@ use Rattle.data_core.specs.declared.fault.Fault.{Fault}
 use Rattle.data_core.specs.Source.{Source, Offer, scalar, offer_of}
 use Rattle.data_core.specs.Source as offer
 use Rattle.data_core.specs.Tracking.{Refusal}
-use Rattle.data_core.specs.Outcome.{Outcome, given, refused, Among, RefusedAmong, Answers, AnswersErr}
-use Rattle.shape.specs.Shape.{Shape, Data, boolean, u8, u16, u32, u64, i8, i16, i32, i64, character, text, bytes, unit, unit_struct}
-use Rattle.shape.specs.First.{visited, boolean_of, unsigned_of, signed_of, within, character_of, character_from, text_of, bytes_of, unit_of}
+use Rattle.data_core.specs.Outcome.{Outcome, given, refused, and_then, Among, RefusedAmong, Answers, AnswersErr}
+use Rattle.shape.specs.Shape.{Shape, Data, boolean, u8, u16, u32, u64, i8, i16, i32, i64, character, text, bytes, unit, unit_struct, option, something}
+use Rattle.shape.specs.First.{asks, visited, boolean_of, unsigned_of, signed_of, within, character_of, character_from, text_of, bytes_of, unit_of}
 use Rattle.shape.specs.Seed.{IsOutcome}
 use Rattle.shape.specs.View.{data_view}
 use Rattle.shape.specs.declared.data.Data as code
@@ -70,6 +70,10 @@ unit_here (scalar offer.unit) = tt
 unit_here (offer.refused f) = refl
 unit_here (scalar s) = refl
 
+something_here : (o : Outcome Data) → IsHere o → IsHere (and_then o (λ d. given (something d)))
+something_here (given d) here = tt
+something_here (refused f path) here = here
+
 visited_here : (a : Shape) (o : Offer) → IsHere (visited a o)
 visited_here boolean o = boolean_here o
 visited_here u8 o = unsigned_here _ o
@@ -85,6 +89,10 @@ visited_here text o = text_here o
 visited_here bytes o = bytes_here o
 visited_here unit o = unit_here o
 visited_here (unit_struct name) o = unit_here o
+visited_here (option a) (scalar offer.none) = tt
+visited_here (option a) (scalar offer.unit) = tt
+visited_here (option a) (offer.some s) = something_here (visited a (offer_of s (asks a))) (visited_here a (offer_of s (asks a)))
+visited_here (option a) o = refl
 
 refused_here : (fault : Option Fault) (o : Outcome Data) (tracks : Bool) (old new : Refusal) → IsHere o → RefusedAmong tracks fault (IsOutcome o) old new → AnswersErr fault o
 refused_here None o tracks old new here h = tt

@@ -28,6 +28,8 @@ printed_has_none (shape.character_data c) = refl
 printed_has_none (shape.text_data t) = refl
 printed_has_none (shape.bytes_data b) = each_has_none whole (λ n. refl) b
 printed_has_none shape.unit_data = refl
+printed_has_none shape.nothing = refl
+printed_has_none (shape.something d) = rw (printed_has_none d) refl
 
 fault_has_none : (f : Fault) → has_float (printed_fault f) ≡ false
 fault_has_none (fault.InvalidType k) = refl

@@ -1,10 +1,10 @@
 -- A map of one entry is an object of one member.
-use Rattle.std.proofs.Common.{◌≡◌, ℕ, List, [], ◌∷◌, length, Option, Some, None, option_map, String, Global, string_bytes, IsSome, slice_get, Bor, refl, ap, arith, true, false}
+use Rattle.std.proofs.Common.{◌≡◌, ℕ, List, [], ◌∷◌, length, Option, Some, None, option_map, unwrap_or, ◌<◌, String, Global, string_bytes, IsSome, slice_get, Bor, refl, ap, arith, true, false}
 use Rattle.std.specs.Option.{IfSome}
 use Rattle.serde_json.specs.declared.value.Value.{Value}
-use Rattle.serde_json.specs.Data.{Data}
+use Rattle.serde_json.specs.Data.{Data, object, Members, no_members, member, depth}
 use Rattle.serde_json.specs.View.{view, members_view}
-use Rattle.capture.specs.Words.{sole}
+use Rattle.capture.specs.Words.{sole, shape_of, tagged_shape, tree_of, tagged_tree}
 
 abbrev Entry : Type 0
 Entry = String Global × Value
@@ -25,3 +25,37 @@ sole-first (e ∷ []) (Some p) one some h =
     let same : ◌≡◌ {A = Entry} (p.0.now, p.1.now) e = cc in
     ap (λ (m : Entry). Some (string_bytes m.0, view m.1)) same
 sole-first (e ∷ f ∷ es) r one some h = absurd (omega arith)
+
+-- the word of an only member, and of none
+pub shape_of-sole : (ms : Members) (tag : List ℕ) (d : Data) → sole ms ≡ Some (tag, d) → shape_of (object ms) ≡ tagged_shape tag d (shape_of d)
+shape_of-sole no_members tag d e = cc
+shape_of-sole (member name f no_members) tag d e =
+    let same : ◌≡◌ {A = List ℕ × Data} (name, f) (tag, d) = ap (λ (o : Option (List ℕ × Data)). unwrap_or o (name, f)) e in
+    ap (λ (m : List ℕ × Data). tagged_shape m.0 m.1 (shape_of m.1)) same
+shape_of-sole (member name f (member other g ms)) tag d e = cc
+
+pub shape_of-none : (ms : Members) → sole ms ≡ None → shape_of (object ms) ≡ None
+shape_of-none no_members e = refl
+shape_of-none (member name f no_members) e = cc
+shape_of-none (member name f (member other g ms)) e = refl
+
+pub tree_of-sole : (ms : Members) (tag : List ℕ) (d : Data) → sole ms ≡ Some (tag, d) → tree_of (object ms) ≡ tagged_tree tag d (tree_of d)
+tree_of-sole no_members tag d e = cc
+tree_of-sole (member name f no_members) tag d e =
+    let same : ◌≡◌ {A = List ℕ × Data} (name, f) (tag, d) = ap (λ (o : Option (List ℕ × Data)). unwrap_or o (name, f)) e in
+    ap (λ (m : List ℕ × Data). tagged_tree m.0 m.1 (tree_of m.1)) same
+tree_of-sole (member name f (member other g ms)) tag d e = cc
+
+pub tree_of-none : (ms : Members) → sole ms ≡ None → tree_of (object ms) ≡ None
+tree_of-none no_members e = refl
+tree_of-none (member name f no_members) e = cc
+tree_of-none (member name f (member other g ms)) e = refl
+
+-- an only member nests less deep than its object
+pub depth-sole : (ms : Members) (tag : List ℕ) (d : Data) → sole ms ≡ Some (tag, d) → depth d < depth (object ms)
+depth-sole no_members tag d e = cc
+depth-sole (member name f no_members) tag d e =
+    let same : ◌≡◌ {A = List ℕ × Data} (name, f) (tag, d) = ap (λ (o : Option (List ℕ × Data)). unwrap_or o (name, f)) e in
+    let deep : depth f ≡ depth d = ap (λ (m : List ℕ × Data). depth m.1) same in
+    omega arith
+depth-sole (member name f (member other g ms)) tag d e = cc

@@ -8,8 +8,8 @@ use Rattle.data_core.specs.declared.fault.Kind.TheVariants as kind
 use Rattle.data_core.specs.Only.{only}
 use Rattle.data_core.specs.Node.{Node}
 use Rattle.data_core.specs.Node as node
-use Rattle.data_core.specs.Outcome.{Outcome, given, refused}
-use Rattle.shape.specs.Shape.{Shape, boolean, u8, u16, u32, u64, i8, i16, i32, i64, character, text, bytes, unit, unit_struct, Data, boolean_data, unsigned, signed, character_data, text_data, bytes_data, unit_data}
+use Rattle.data_core.specs.Outcome.{Outcome, given, refused, and_then}
+use Rattle.shape.specs.Shape.{Shape, boolean, u8, u16, u32, u64, i8, i16, i32, i64, character, text, bytes, unit, unit_struct, option, Data, boolean_data, unsigned, signed, character_data, text_data, bytes_data, unit_data, nothing, something}
 use Rattle.shape.specs.First.{within, character_from}
 
 -- the kind that a node has of itself
@@ -26,6 +26,8 @@ own (node.i64 z) = kind.Signed
 own (node.character c) = kind.Char
 own (node.string t) = kind.Str
 own node.unit = kind.Unit
+own node.none = kind.Option
+own (node.some t) = kind.Option
 own (node.bytes b) = kind.Bytes
 
 -- the kind that a reader sees: a character's is that of its text
@@ -80,4 +82,8 @@ first_tree text (node.bytes b) = if is_utf8 b then given (text_data b) else out_
 first_tree bytes (node.bytes b) = given (bytes_data b)
 first_tree unit node.unit = given unit_data
 first_tree (unit_struct name) node.unit = given unit_data
+first_tree (option a) node.none = given nothing
+first_tree (option a) node.unit = given nothing
+first_tree (option a) (node.some t) = and_then (first_tree a t) (λ d. given (something d))
+first_tree (option a) t = and_then (first_tree a t) (λ d. given (something d))
 first_tree s t = refused_as_itself t

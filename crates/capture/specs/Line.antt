@@ -12,7 +12,7 @@ use Rattle.data_core.specs.KindName.{kind_name}
 use Rattle.data_core.specs.WordText.{word_text}
 use Rattle.data_core.specs.PathText.{path_text}
 use Rattle.data_core.specs.Outcome.{Outcome, given, refused}
-use Rattle.shape.specs.Shape.{Data, boolean_data, unsigned, signed, character_data, text_data, bytes_data, unit_data}
+use Rattle.shape.specs.Shape.{Data, boolean_data, unsigned, signed, character_data, text_data, bytes_data, unit_data, nothing, something}
 
 abbrev pub whole : ℕ → json.Data
 whole n = json.number (json.unsigned n)
@@ -31,6 +31,8 @@ printed (character_data c) = json.string (encode_utf8 c)
 printed (text_data t) = json.string t
 printed (bytes_data b) = json.array (each whole b)
 printed unit_data = json.null
+printed nothing = json.array no_items
+printed (something d) = json.array (item (printed d) no_items)
 
 -- a name alone, and a name with what it is about
 abbrev pub alone : List ℕ → json.Data

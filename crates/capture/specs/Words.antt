@@ -32,14 +32,20 @@ word_shape word =
     if bytes_eq word (codes "bytes") then Some shape.bytes else (
     if bytes_eq word (codes "unit") then Some shape.unit else None))))))))))))
 
--- a shape under a tag
-abbrev pub tagged_shape : List ℕ → Data → Option Shape
-tagged_shape tag (json.string name) = if bytes_eq tag (codes "unit_struct") then Some (shape.unit_struct name) else None
-tagged_shape tag d = None
+-- the name of a unit struct
+abbrev pub unit_struct_in : Data → Option Shape
+unit_struct_in (json.string name) = Some (shape.unit_struct name)
+unit_struct_in d = None
+
+-- a shape under a tag, by what stands there and the shape that it is
+abbrev pub tagged_shape : List ℕ → Data → Option Shape → Option Shape
+tagged_shape tag d inside =
+    if bytes_eq tag (codes "unit_struct") then unit_struct_in d else (
+    if bytes_eq tag (codes "option") then option_map shape.option inside else None)
 
 abbrev pub shape_of : Data → Option Shape
 shape_of (json.string word) = word_shape word
-shape_of (json.object ms) = option_and_then (λ m. tagged_shape m.0 m.1) (sole ms)
+shape_of (json.object (member tag d no_members)) = tagged_shape tag d (shape_of d)
 shape_of d = None
 
 -- a number up to the greatest, which serde_json does not hold as a float
@@ -74,9 +80,9 @@ abbrev pub bytes_in : Data → Option Node
 bytes_in (json.array ds) = option_map node.bytes (bytes_from ds)
 bytes_in d = None
 
--- a tree under a tag
-abbrev pub tagged_tree : List ℕ → Data → Option Node
-tagged_tree tag d =
+-- a tree under a tag, by what stands there and the tree that it is
+abbrev pub tagged_tree : List ℕ → Data → Option Node → Option Node
+tagged_tree tag d inside =
     if bytes_eq tag (codes "Bool") then boolean_in d else (
     if bytes_eq tag (codes "U8") then option_map node.u8 (unsigned_in (2 ^ 8 - 1) d) else (
     if bytes_eq tag (codes "U16") then option_map node.u16 (unsigned_in (2 ^ 16 - 1) d) else (
@@ -88,13 +94,16 @@ tagged_tree tag d =
     if bytes_eq tag (codes "I64") then option_map node.i64 (signed_in (2 ^ 63 - 1) d) else (
     if bytes_eq tag (codes "Char") then character_in d else (
     if bytes_eq tag (codes "String") then string_in d else (
-    if bytes_eq tag (codes "Bytes") then bytes_in d else None)))))))))))
+    if bytes_eq tag (codes "Bytes") then bytes_in d else (
+    if bytes_eq tag (codes "Some") then option_map node.some inside else None))))))))))))
 
 -- a tree that has no tag
 abbrev pub word_tree : List ℕ → Option Node
-word_tree word = if bytes_eq word (codes "Unit") then Some node.unit else None
+word_tree word =
+    if bytes_eq word (codes "Unit") then Some node.unit else (
+    if bytes_eq word (codes "None") then Some node.none else None)
 
 abbrev pub tree_of : Data → Option Node
 tree_of (json.string word) = word_tree word
-tree_of (json.object ms) = option_and_then (λ m. tagged_tree m.0 m.1) (sole ms)
+tree_of (json.object (member tag d no_members)) = tagged_tree tag d (tree_of d)
 tree_of d = None

@@ -23,6 +23,11 @@ fn print(alloc: Global, value: Data) -> Result<Json, AllocError>
         Data::Text(text) => Ok(Json::String(text.into_string())),
         Data::Bytes(bytes) => print_bytes(alloc, &bytes),
         Data::Unit => Ok(Json::Null),
+        Data::Option(None) => json!(in alloc; []),
+        Data::Option(Some(inside)) => {
+            let inside = print(alloc, Box::into_inner(inside))?;
+            json!(in alloc; [inside])
+        }
     }
 }
 
