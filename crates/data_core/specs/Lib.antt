@@ -4,6 +4,8 @@ pub mod Unexpected
 pub mod Ask
 pub mod Source
 pub mod Node
+pub mod Depth
+pub mod NodeCode
 pub mod Refused
 pub mod Show
 pub mod Tracking

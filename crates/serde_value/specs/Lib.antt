@@ -1,4 +1,5 @@
 pub mod View
+pub mod Sizes
 pub mod Deserializer
 pub mod Unexpected
 pub mod ErrorView

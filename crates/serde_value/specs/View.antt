@@ -1,6 +1,6 @@
 -- A tree without where it lies in memory.
-use Rattle.std.specs.Prelude.{string_bytes}
-use Rattle.data_core.specs.Node.{Node, boolean, u8, u16, u32, u64, i8, i16, i32, i64, character, string, unit, bytes}
+use Rattle.std.specs.Prelude.{None, Some, string_bytes}
+use Rattle.data_core.specs.Node.{Node, boolean, u8, u16, u32, u64, i8, i16, i32, i64, character, string, unit, none, some, bytes}
 use Rattle.serde_value.specs.declared.value.Value.{Value}
 use Rattle.serde_value.specs.declared.value.Value.TheVariants as code
 
@@ -17,4 +17,6 @@ node_view (code.I64 z) = i64 z
 node_view (code.Char c) = character c
 node_view (code.String s) = string (string_bytes s)
 node_view code.Unit = unit
+node_view (code.Option None) = none
+node_view (code.Option (Some held)) = some held
 node_view (code.Bytes b) = bytes b.items

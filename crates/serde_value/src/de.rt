@@ -1,11 +1,12 @@
 //! Deserializers over trees.
 ghost use Rattle.std.specs.Prelude.{◌≡◌, false, string_bytes};
-ghost use Rattle.data_core.specs.Node.{of_node, scalar_of as node_scalar};
-ghost use Rattle.data_core.specs.Show.{scalar_view};
+ghost use Rattle.data_core.specs.Node.{of_node, plain, wrapped};
+ghost use Rattle.data_core.specs.Source.{resolved};
+ghost use Rattle.data_core.specs.Show.{shown_offer};
 ghost use Rattle.serde_value.specs.View.{node_view};
 ghost use Rattle.serde_value.specs.Deserializer.{value_of};
 
-use crate::value::Value;
+use crate::value::{Held, Value};
 use data_core::{DeError, Deserializer, Hint, Scalar, Shown};
 use std::alloc::Global;
 use std::marker::PhantomData;
@@ -39,24 +40,49 @@ impl<E: DeError> ValueDeserializer<E> {
     }
 }
 
-// A tree as the scalar that it is: a text and bytes as owned ones.
-fn scalar_of(value: Value) -> Scalar<String, Vec<u8>>
-    ensures { scalar_view string_bytes (λ b. b.items) result ≡ node_scalar (node_view value) }
+// A tree as it is.
+fn show_plain<E: DeError>(alloc: Global, value: Value) -> Shown<ValueDeserializer<E>>
+    ensures { shown_offer string_bytes (λ b. b.items) (λ d. of_node (node_view (value_of d))) result
+        ≡ plain (node_view value) }
 {
     match value {
-        Value::Bool(b) => Scalar::Bool(b),
-        Value::U8(n) => Scalar::U8(n),
-        Value::U16(n) => Scalar::U16(n),
-        Value::U32(n) => Scalar::U32(n),
-        Value::U64(n) => Scalar::U64(n),
-        Value::I8(n) => Scalar::I8(n),
-        Value::I16(n) => Scalar::I16(n),
-        Value::I32(n) => Scalar::I32(n),
-        Value::I64(n) => Scalar::I64(n),
-        Value::Char(c) => Scalar::Char(c),
-        Value::String(text) => Scalar::Text(text),
-        Value::Unit => Scalar::Unit,
-        Value::Bytes(bytes) => Scalar::Bytes(bytes),
+        Value::Bool(b) => Shown::Scalar(Scalar::Bool(b)),
+        Value::U8(n) => Shown::Scalar(Scalar::U8(n)),
+        Value::U16(n) => Shown::Scalar(Scalar::U16(n)),
+        Value::U32(n) => Shown::Scalar(Scalar::U32(n)),
+        Value::U64(n) => Shown::Scalar(Scalar::U64(n)),
+        Value::I8(n) => Shown::Scalar(Scalar::I8(n)),
+        Value::I16(n) => Shown::Scalar(Scalar::I16(n)),
+        Value::I32(n) => Shown::Scalar(Scalar::I32(n)),
+        Value::I64(n) => Shown::Scalar(Scalar::I64(n)),
+        Value::Char(c) => Shown::Scalar(Scalar::Char(c)),
+        Value::String(text) => Shown::Scalar(Scalar::Text(text)),
+        Value::Unit => Shown::Scalar(Scalar::Unit),
+        Value::Option(held) => show_held(alloc, held),
+        Value::Bytes(bytes) => Shown::Scalar(Scalar::Bytes(bytes)),
+    }
+}
+
+// A tree as an option: nothing and a unit are nothing, and any other tree is a value of itself.
+fn show_option<E: DeError>(alloc: Global, value: Value) -> Shown<ValueDeserializer<E>>
+    ensures { shown_offer string_bytes (λ b. b.items) (λ d. of_node (node_view (value_of d))) result
+        ≡ resolved (of_node (node_view value)) (wrapped (node_view value)) }
+{
+    match value {
+        Value::Unit => Shown::Scalar(Scalar::Unit),
+        Value::Option(held) => show_held(alloc, held),
+        other => Shown::Some(ValueDeserializer::new(alloc, other)),
+    }
+}
+
+// An option, and what it holds.
+fn show_held<E: DeError>(alloc: Global, held: Option<Held>) -> Shown<ValueDeserializer<E>>
+    ensures { shown_offer string_bytes (λ b. b.items) (λ d. of_node (node_view (value_of d))) result
+        ≡ plain (node_view (Value.Option held)) }
+{
+    match held {
+        Some(held) => Shown::Some(ValueDeserializer::new(alloc, held.into_inner())),
+        None => Shown::Scalar(Scalar::None),
     }
 }
 
@@ -77,7 +103,8 @@ impl<E: DeError> Deserializer for ValueDeserializer<E> {
                 self.alloc,
                 "integers of 128 bits are not supported",
             )),
-            _ => Ok(Shown::Scalar(scalar_of(self.value))),
+            Hint::Option => Ok(show_option(self.alloc, self.value)),
+            _ => Ok(show_plain(self.alloc, self.value)),
         }
     }
 }

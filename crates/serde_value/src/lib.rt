@@ -9,4 +9,4 @@ mod value;
 pub use de::ValueDeserializer;
 pub use error::DeserializerError;
 pub use unexpected::Unexpected;
-pub use value::Value;
+pub use value::{Held, Value};
