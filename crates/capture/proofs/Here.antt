@@ -31,6 +31,8 @@ from_here (Some c) = tt
 
 boolean_here : (o : Offer) → IsHere (boolean_of o)
 boolean_here (offer.refused f) = refl
+boolean_here offer.some_itself = refl
+boolean_here (offer.some s) = refl
 boolean_here (scalar (offer.boolean b)) = tt
 boolean_here (scalar s) = refl
 
@@ -39,18 +41,24 @@ unsigned_here greatest (scalar (offer.unsigned n)) = cond_here (nat_le n greates
 unsigned_here greatest (scalar (offer.signed (pos n))) = cond_here (nat_le n greatest) _ _
 unsigned_here greatest (scalar (offer.signed (negsuc n))) = refl
 unsigned_here greatest (offer.refused f) = refl
+unsigned_here greatest offer.some_itself = refl
+unsigned_here greatest (offer.some s) = refl
 unsigned_here greatest (scalar s) = refl
 
 signed_here : (greatest : ℕ) (o : Offer) → IsHere (signed_of greatest o)
 signed_here greatest (scalar (offer.unsigned n)) = cond_here (nat_le n greatest) _ _
 signed_here greatest (scalar (offer.signed z)) = cond_here (within greatest z) _ _
 signed_here greatest (offer.refused f) = refl
+signed_here greatest offer.some_itself = refl
+signed_here greatest (offer.some s) = refl
 signed_here greatest (scalar s) = refl
 
 character_here : (o : Offer) → IsHere (character_of o)
 character_here (scalar (offer.character c)) = tt
 character_here (scalar (offer.text t)) = from_here (only (chars t))
 character_here (offer.refused f) = refl
+character_here offer.some_itself = refl
+character_here (offer.some s) = refl
 character_here (scalar s) = refl
 
 text_here : (o : Offer) → IsHere (text_of o)
@@ -58,16 +66,22 @@ text_here (scalar (offer.text t)) = tt
 text_here (scalar (offer.character c)) = tt
 text_here (scalar (offer.bytes b)) = cond_here (is_utf8 b) _ _
 text_here (offer.refused f) = refl
+text_here offer.some_itself = refl
+text_here (offer.some s) = refl
 text_here (scalar s) = refl
 
 bytes_here : (o : Offer) → IsHere (bytes_of o)
 bytes_here (scalar (offer.bytes b)) = tt
 bytes_here (offer.refused f) = refl
+bytes_here offer.some_itself = refl
+bytes_here (offer.some s) = refl
 bytes_here (scalar s) = refl
 
 unit_here : (o : Offer) → IsHere (unit_of o)
 unit_here (scalar offer.unit) = tt
 unit_here (offer.refused f) = refl
+unit_here offer.some_itself = refl
+unit_here (offer.some s) = refl
 unit_here (scalar s) = refl
 
 something_here : (o : Outcome Data) → IsHere o → IsHere (and_then o (λ d. given (something d)))

@@ -59,3 +59,5 @@ depth-sole (member name f no_members) tag d e =
     let deep : depth f ≡ depth d = ap (λ (m : List ℕ × Data). depth m.1) same in
     omega arith
 depth-sole (member name f (member other g ms)) tag d e = cc
+
+pub ruleset soles = (shape_of-sole, shape_of-none, tree_of-sole, tree_of-none, depth-sole)

@@ -80,9 +80,9 @@ abbrev pub bytes_in : Data → Option Node
 bytes_in (json.array ds) = option_map node.bytes (bytes_from ds)
 bytes_in d = None
 
--- a tree under a tag, by what stands there and the tree that it is
-abbrev pub tagged_tree : List ℕ → Data → Option Node → Option Node
-tagged_tree tag d inside =
+-- a tree without parts under a tag
+abbrev pub scalar_under : List ℕ → Data → Option Node
+scalar_under tag d =
     if bytes_eq tag (codes "Bool") then boolean_in d else (
     if bytes_eq tag (codes "U8") then option_map node.u8 (unsigned_in (2 ^ 8 - 1) d) else (
     if bytes_eq tag (codes "U16") then option_map node.u16 (unsigned_in (2 ^ 16 - 1) d) else (
@@ -94,8 +94,11 @@ tagged_tree tag d inside =
     if bytes_eq tag (codes "I64") then option_map node.i64 (signed_in (2 ^ 63 - 1) d) else (
     if bytes_eq tag (codes "Char") then character_in d else (
     if bytes_eq tag (codes "String") then string_in d else (
-    if bytes_eq tag (codes "Bytes") then bytes_in d else (
-    if bytes_eq tag (codes "Some") then option_map node.some inside else None))))))))))))
+    if bytes_eq tag (codes "Bytes") then bytes_in d else None)))))))))))
+
+-- a tree under a tag, by what stands there and the tree that it is
+abbrev pub tagged_tree : List ℕ → Data → Option Node → Option Node
+tagged_tree tag d inside = if bytes_eq tag (codes "Some") then option_map node.some inside else scalar_under tag d
 
 -- a tree that has no tag
 abbrev pub word_tree : List ℕ → Option Node

@@ -4,16 +4,18 @@ ghost use Rattle.serde_json.specs.View.{view, items_view, members_view};
 ghost use Rattle.data_core.specs.Node as node;
 ghost use Rattle.serde_value.specs.View.{node_view};
 ghost use Rattle.shape.specs.View.{shape_view};
-ghost use Rattle.capture.specs.Words.{word_shape as shape_named, tagged_shape as shape_under, shape_of, unsigned_in as unsigned_held, signed_in as signed_held, boolean_in, character_in, string_in, bytes_from, bytes_in, word_tree as tree_named, tagged_tree as tree_under, tree_of};
+ghost use Rattle.capture.specs.Words.{word_shape as shape_named, tagged_shape as shape_under, unit_struct_in, shape_of, unsigned_in as unsigned_held, signed_in as signed_held, boolean_in, character_in, string_in, bytes_from, bytes_in, word_tree as tree_named, tagged_tree as tree_under, scalar_under, tree_of};
 
 use crate::members::{sole_member, take_sole_member};
 use data_core::{Text, only_char};
 use serde_json::Value as Json;
-use serde_value::Value;
+use serde_value::{Held, Value};
 use shape::Shape;
 use std::alloc::{AllocError, Global};
 
 /// The shape that a JSON value is the word of.
+#[cycle(shape)]
+#[tactic(auto, using(crate::proofs::SoleMember::soles))]
 pub fn shape(alloc: Global, json: &Json) -> Result<Option<Shape>, AllocError>
     ensures { IfOk result (λ found. option_map shape_view found ≡ shape_of (view json.now)) }
 {
@@ -48,19 +50,33 @@ fn word_shape(word: &str) -> Option<Shape>
     }
 }
 
+#[cycle(shape)]
 fn tagged_shape(alloc: Global, tag: &str, inside: &Json) -> Result<Option<Shape>, AllocError>
-    ensures { IfOk result (λ found. option_map shape_view found ≡ shape_under tag.now (view inside.now)) }
+    ensures { IfOk result (λ found. option_map shape_view found
+        ≡ shape_under tag.now (view inside.now) (shape_of (view inside.now))) }
 {
-    match inside {
-        Json::String(name) => match tag {
-            "unit_struct" => Ok(Some(Shape::UnitStruct(Text::new(alloc, name.as_str())?))),
-            _ => Ok(None),
+    match tag {
+        "unit_struct" => unit_struct(alloc, inside),
+        "option" => match shape(alloc, inside)? {
+            Some(inside) => Ok(Some(Shape::Option(Box::new(alloc, inside)?))),
+            None => Ok(None),
         },
         _ => Ok(None),
     }
 }
 
+fn unit_struct(alloc: Global, json: &Json) -> Result<Option<Shape>, AllocError>
+    ensures { IfOk result (λ found. option_map shape_view found ≡ unit_struct_in (view json.now)) }
+{
+    match json {
+        Json::String(name) => Ok(Some(Shape::UnitStruct(Text::new(alloc, name.as_str())?))),
+        _ => Ok(None),
+    }
+}
+
 /// The tree that a JSON value is the word of.
+#[cycle(tree)]
+#[tactic(auto, using(crate::proofs::SoleMember::soles))]
 pub fn tree(alloc: Global, json: Json) -> Result<Option<Value>, AllocError>
     ensures { IfOk result (λ found. option_map node_view found ≡ tree_of (view json)) }
 {
@@ -79,12 +95,30 @@ fn word_tree(word: &str) -> Option<Value>
 {
     match word {
         "Unit" => Some(Value::Unit),
+        "None" => Some(Value::Option(None)),
         _ => None,
     }
 }
 
+#[cycle(tree)]
 fn tagged_tree(alloc: Global, tag: &str, inside: Json) -> Result<Option<Value>, AllocError>
-    ensures { IfOk result (λ found. option_map node_view found ≡ tree_under tag.now (view inside)) }
+    ensures { IfOk result (λ found. option_map node_view found
+        ≡ tree_under tag.now (view inside) (tree_of (view inside))) }
+{
+    match tag {
+        "Some" => match tree(alloc, inside)? {
+            Some(inside) => {
+                let held = Held::from_box(Box::new(alloc, inside)?);
+                Ok(Some(Value::Option(Some(held))))
+            }
+            None => Ok(None),
+        },
+        _ => tagged_scalar(alloc, tag, inside),
+    }
+}
+
+fn tagged_scalar(alloc: Global, tag: &str, inside: Json) -> Result<Option<Value>, AllocError>
+    ensures { IfOk result (λ found. option_map node_view found ≡ scalar_under tag.now (view inside)) }
 {
     match tag {
         "Bool" => Ok(boolean(inside)),

@@ -7,3 +7,6 @@ pub returns-in-Err : goal.returns-in-Err
 returns-in-Err c =
     let answers = rw (c.new-d.ensures, first_agrees) at c.in-Err.ensures in
     refusal_here c.refusal.result (fault_of c.in-Err.error) _ answers c.refusal.ensures
+
+pub returns-in-Ok : goal.returns-in-Ok
+returns-in-Ok c = rw (c.new-d.ensures, first_agrees) at c.in-Ok.ensures

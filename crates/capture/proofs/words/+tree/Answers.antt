@@ -1,0 +1,12 @@
+use Rattle.std.proofs.Common.{◌≡◌, Some, sym, trans, string_bytes}
+use Rattle.serde_json.specs.View.{view, members_view}
+use Rattle.serde_json.proofs.Views.{view-Object}
+use Rattle.capture.specs.Words.{sole}
+use Rattle.capture.proofs.SoleMember.{tree_of-sole}
+use Rattle.capture.proofs.words.+tree.Goals as goal
+
+pub tree-returns-in-Some : goal.tree-returns-in-Some
+tree-returns-in-Some t c =
+    let h = c.in-Some.ensures in
+    let k = c.tagged_tree.ensures in
+    let a = c.as_str-in-Some.ensures in ?
