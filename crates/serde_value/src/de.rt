@@ -116,7 +116,12 @@ mod tests {
     use std::alloc::AllocError;
     use std::test::Fail;
 
-    fn trees(alloc: Global) -> Result<[(Value, &'static str); 13], AllocError> {
+    fn some(alloc: Global, value: Value) -> Result<Value, AllocError> {
+        let inner = Box::new(alloc, value)?;
+        Ok(Value::Option(Some(Held::from_box(inner))))
+    }
+
+    fn trees(alloc: Global) -> Result<[(Value, &'static str); 15], AllocError> {
         Ok([
             (Value::Bool(true), "bool true"),
             (Value::U8(1), "u8 1"),
@@ -130,7 +135,18 @@ mod tests {
             (Value::Char('x'), "char x"),
             (Value::String(String::from_str(alloc, "t")?), "text t"),
             (Value::Unit, "unit"),
+            (Value::Option(None), "none"),
+            (some(alloc, Value::U8(5))?, "some u8 5"),
             (Value::Bytes(Vec::from_slice(alloc, b"b")?), "bytes [98]"),
+        ])
+    }
+
+    fn options(alloc: Global) -> Result<[(Value, &'static str); 4], AllocError> {
+        Ok([
+            (Value::Option(None), "none"),
+            (some(alloc, Value::U8(5))?, "some u8 5"),
+            (Value::U8(5), "some u8 5"),
+            (Value::Unit, "unit"),
         ])
     }
 
@@ -149,7 +165,21 @@ mod tests {
             Scalar::Text(text) => format!(in alloc; "text {text}"),
             Scalar::Bytes(bytes) => format!(in alloc; "bytes {bytes:?}"),
             Scalar::Unit => String::from_str(alloc, "unit"),
-            Scalar::I128(_) | Scalar::U128(_) | Scalar::None => String::from_str(alloc, "another"),
+            Scalar::None => String::from_str(alloc, "none"),
+            Scalar::I128(_) | Scalar::U128(_) => String::from_str(alloc, "another"),
+        }
+    }
+
+    fn shown_text(
+        alloc: Global,
+        shown: Shown<ValueDeserializer<DeserializerError>>,
+    ) -> Result<String, AllocError> {
+        match shown {
+            Shown::Scalar(scalar) => scalar_text(alloc, scalar),
+            Shown::Some(inside) => match inside.into_value() {
+                Value::U8(n) => format!(in alloc; "some u8 {n}"),
+                _ => String::from_str(alloc, "some other tree"),
+            },
         }
     }
 
@@ -158,9 +188,19 @@ mod tests {
         for (tree, text) in trees(rt.alloc())? {
             let d = ValueDeserializer::<DeserializerError>::new(rt.alloc(), tree);
             match d.show(Hint::Any) {
-                Ok(Shown::Scalar(scalar)) => {
-                    assert_eq!(rt; scalar_text(rt.alloc(), scalar)?.as_str(), text);
-                }
+                Ok(shown) => assert_eq!(rt; shown_text(rt.alloc(), shown)?.as_str(), text),
+                Err(error) => panic!(rt; "{error}"),
+            }
+        }
+        Ok(())
+    }
+
+    #[test]
+    fn a_tree_is_shown_as_an_option(rt: HostRuntime) -> Result<(), Fail> {
+        for (tree, text) in options(rt.alloc())? {
+            let d = ValueDeserializer::<DeserializerError>::new(rt.alloc(), tree);
+            match d.show(Hint::Option) {
+                Ok(shown) => assert_eq!(rt; shown_text(rt.alloc(), shown)?.as_str(), text),
                 Err(error) => panic!(rt; "{error}"),
             }
         }

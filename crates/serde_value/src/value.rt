@@ -81,3 +81,18 @@ impl Held {
         &self.inner
     }
 }
+
+#[cfg(test)]
+mod tests {
+    use super::*;
+    use std::test::Fail;
+
+    #[test]
+    fn a_held_tree_comes_back(rt: HostRuntime) -> Result<(), Fail> {
+        let held = Held::from_box(Box::new(rt.alloc(), Value::U8(7))?);
+        assert!(rt; matches!(held.get(), Value::U8(7)));
+        let held = Held::from_box(held.into_box());
+        assert!(rt; matches!(held.into_inner(), Value::U8(7)));
+        Ok(())
+    }
+}
