@@ -1,4 +1,4 @@
-use Rattle.std.proofs.Common.{◌≡◌, Some, sym, trans, string_bytes}
+use Rattle.std.proofs.Common.{◌≡◌, Some, sym, string_bytes}
 use Rattle.serde_json.specs.View.{view, members_view}
 use Rattle.serde_json.proofs.Views.{view-Object}
 use Rattle.capture.specs.Words.{sole}
@@ -9,4 +9,5 @@ pub tree-returns-in-Some : goal.tree-returns-in-Some
 tree-returns-in-Some t c =
     let h = c.in-Some.ensures in
     let k = c.tagged_tree.ensures in
-    let a = c.as_str-in-Some.ensures in ?
+    let a = c.as_str-in-Some.ensures.value in
+    rw c.in-Object.is rw (view-Object c.in-Object.members) rw (tree_of-sole _ _ _ (sym h)) rw (sym a) k
