@@ -96,6 +96,64 @@ fn answers_documents(rt: HostRuntime) -> Result<(), Fail> {
 }
 
 #[test]
+fn answers_options(rt: HostRuntime) -> Result<(), Fail> {
+    let table = [
+        ("\"None\"", 0, "{\"value\":[]}\n"),
+        ("\"Unit\"", 0, "{\"value\":[]}\n"),
+        ("{\"U8\":5}", 0, "{\"value\":[5]}\n"),
+        ("{\"Some\":{\"U8\":5}}", 0, "{\"value\":[5]}\n"),
+        (
+            "{\"Some\":\"Unit\"}",
+            1,
+            "{\"at\":\".\",\"fault\":[\"InvalidType\",\"Unit\"],\"path\":[]}\n",
+        ),
+        (
+            "{\"Some\":{\"Some\":{\"U8\":5}}}",
+            1,
+            "{\"at\":\".\",\"fault\":[\"InvalidType\",\"Option\"],\"path\":[]}\n",
+        ),
+        ("{\"Some\":5}", 3, ""),
+        ("\"Some\"", 3, ""),
+    ];
+    for (tree, status, line) in table {
+        let document = format!(in rt.alloc();
+            "{{\"shape\":{{\"option\":\"u8\"}},\"kind\":\"tree\",\"input\":{tree}}}"
+        )?;
+        let (code, out) = ended(rt.alloc(), &["read"], document.as_bytes(), 7)?;
+        assert_eq!(rt; code, status, "{tree}");
+        assert_eq!(rt; out.bytes(), line.as_bytes(), "{tree}");
+    }
+    Ok(())
+}
+
+#[test]
+fn answers_deep_options(rt: HostRuntime) -> Result<(), Fail> {
+    let shape = nested(rt.alloc(), "{\"option\":", "\"u8\"", 60)?;
+    let tree = nested(rt.alloc(), "{\"Some\":", "{\"Bool\":true}", 60)?;
+    let document = format!(in rt.alloc();
+        "{{\"shape\":{shape},\"kind\":\"tree\",\"input\":{tree}}}"
+    )?;
+    let (code, out) = ended(rt.alloc(), &["read"], document.as_bytes(), 1000)?;
+    assert_eq!(rt; code, 1);
+    let line = "{\"at\":\".\",\"fault\":[\"InvalidType\",\"Bool\"],\"path\":[]}\n";
+    assert_eq!(rt; out.bytes(), line.as_bytes());
+    Ok(())
+}
+
+// A text within so many objects, each opened by these words.
+fn nested(alloc: Global, open: &str, inside: &str, depth: usize) -> Result<String, Fail> {
+    let mut text = String::new(alloc);
+    for _ in 0..depth {
+        text.push_str(open)?;
+    }
+    text.push_str(inside)?;
+    for _ in 0..depth {
+        text.push('}')?;
+    }
+    Ok(text)
+}
+
+#[test]
 fn refuses_what_is_no_document(rt: HostRuntime) -> Result<(), Fail> {
     let table = [
         "",

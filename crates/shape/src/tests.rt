@@ -103,6 +103,10 @@ fn unit_struct(alloc: Global, name: &str) -> Result<Shape, AllocError> {
     Ok(Shape::UnitStruct(Text::new(alloc, name)?))
 }
 
+fn option(alloc: Global, inner: Shape) -> Result<Shape, AllocError> {
+    Ok(Shape::Option(Box::new(alloc, inner)?))
+}
+
 fn data_text(alloc: Global, data: Data) -> Result<String, AllocError> {
     match data {
         Data::Bool(b) => format!(in alloc; "bool {b}"),
@@ -112,6 +116,8 @@ fn data_text(alloc: Global, data: Data) -> Result<String, AllocError> {
         Data::Text(text) => format!(in alloc; "text {}", text.as_str()),
         Data::Bytes(bytes) => format!(in alloc; "bytes {bytes:?}"),
         Data::Unit => String::from_str(alloc, "unit"),
+        Data::Option(None) => String::from_str(alloc, "nothing"),
+        Data::Option(Some(_)) => String::from_str(alloc, "something"),
     }
 }
 
@@ -256,6 +262,25 @@ fn booleans_and_units(rt: HostRuntime) -> Result<(), Fail> {
     Ok(())
 }
 
+// A scalar that is no option is shown as one by the deserializer, which this one is not.
+#[test]
+fn options_of_scalars(rt: HostRuntime) -> Result<(), Fail> {
+    let alloc = rt.alloc();
+    let table = [
+        (option(alloc, Shape::U8)?, Scalar::None, "nothing"),
+        (option(alloc, Shape::U8)?, Scalar::Unit, "nothing"),
+        (
+            option(alloc, Shape::U8)?,
+            Scalar::U8(1),
+            "InvalidType Unsigned",
+        ),
+    ];
+    for (shape, scalar, want) in table {
+        assert_eq!(rt; read(alloc, &shape, scalar)?.as_str(), want);
+    }
+    Ok(())
+}
+
 fn hint_name<'a>(hint: Hint<'a>) -> &'a str {
     match hint {
         Hint::Bool => "bool",
@@ -272,6 +297,7 @@ fn hint_name<'a>(hint: Hint<'a>) -> &'a str {
         Hint::ByteBuf => "byte_buf",
         Hint::Unit => "unit",
         Hint::UnitStruct(name) => name,
+        Hint::Option => "option",
         _ => "another",
     }
 }
@@ -293,6 +319,7 @@ fn hopes_for_its_own_kind(rt: HostRuntime) -> Result<(), Fail> {
         (Shape::Bytes, "byte_buf"),
         (Shape::Unit, "unit"),
         (unit_struct(rt.alloc(), "Marker")?, "Marker"),
+        (option(rt.alloc(), Shape::Unit)?, "option"),
     ];
     for (shape, want) in table {
         assert_eq!(rt; hint_name(hint(&shape)), want);

@@ -1,7 +1,5 @@
-use Rattle.std.proofs.Common.{◌≡◌, Some, sym, string_bytes}
-use Rattle.serde_json.specs.View.{view, members_view}
+use Rattle.std.proofs.Common.{sym}
 use Rattle.serde_json.proofs.Views.{view-Object}
-use Rattle.capture.specs.Words.{sole}
 use Rattle.capture.proofs.SoleMember.{tree_of-sole}
 use Rattle.capture.proofs.words.+tree.Goals as goal
 
