@@ -1,5 +1,5 @@
 -- The path of the first refusal, as it grows on the way out of nested reads.
-use Rattle.std.specs.Prelude.{List, [], ◌≡◌}
+use Rattle.std.specs.Prelude.{List, [], ◌∷◌, ◌≡◌, Option, Some, None}
 use Rattle.data_core.specs.declared.path.Segment.{Segment}
 
 pub data Refusal : Type 0 where
@@ -19,3 +19,16 @@ abbrev pub path_of : Refusal → List Segment
 path_of clear = []
 path_of (held p) = p
 path_of marked = []
+
+-- a refusal at this path, or at one that was lost, is noted: the first one stays
+abbrev pub noted : Option (List Segment) → Refusal → Refusal
+noted (Some path) clear = held path
+noted None clear = marked
+noted path (held p) = held p
+noted path marked = marked
+
+-- a refusal came from within this segment: its path begins there
+abbrev pub added : Segment → Refusal → Refusal
+added segment clear = clear
+added segment (held p) = held (segment ∷ p)
+added segment marked = marked

@@ -2,8 +2,9 @@
 ghost use Rattle.std.specs.Prelude.{◌≡◌, ◌==◌, [], ◌∷◌, ◌++◌, length, reverse, OnOk, IfOk, IfErr, string_bytes};
 ghost use Rattle.data_core.specs.PathText.{path_text};
 
+use crate::segments::Segments;
 use crate::text::Text;
-use std::alloc::Global;
+use std::alloc::{AllocError, Global};
 use std::fmt;
 use std::marker::Model;
 
@@ -18,6 +19,24 @@ pub enum Segment {
     Enum { variant: Text },
     /// A part whose key no path can name.
     Unknown,
+}
+
+impl Segment {
+    // A copy of the step.
+    fn try_clone(&self, alloc: Global) -> Result<Segment, AllocError>
+        ensures { IfOk result (λ s. s ≡ self.now) }
+    {
+        match self {
+            Segment::Seq { index } => Ok(Segment::Seq { index: *index }),
+            Segment::Map { key } => Ok(Segment::Map {
+                key: key.try_clone(alloc)?,
+            }),
+            Segment::Enum { variant } => Ok(Segment::Enum {
+                variant: variant.try_clone(alloc)?,
+            }),
+            Segment::Unknown => Ok(Segment::Unknown),
+        }
+    }
 }
 
 impl fmt::Display for Segment {
@@ -112,6 +131,24 @@ impl Path {
         self.segments.as_slice()
     }
 
+    /// Each step once, the outermost one first.
+    pub fn iter(&self) -> Segments<'_>
+        ensures { result ≡ self.now }
+    {
+        Segments::new(self)
+    }
+
+    /// A copy of the path: serde_path_to_error's `clone`.
+    pub fn try_clone(&self, alloc: Global) -> Result<Path, AllocError>
+        ensures { IfOk result (λ p. p ≡ self.now) }
+    {
+        let mut segments = Vec::new(alloc);
+        for segment in &self.segments {
+            segments.push(segment.try_clone(alloc)?)?;
+        }
+        Ok(Path { segments })
+    }
+
     // The same steps, the last one first.
     pub(crate) fn turned_round(self) -> Path
         ensures { result ≡ reverse self }
@@ -139,10 +176,21 @@ impl fmt::Display for Path {
     }
 }
 
+impl<'a> IntoIterator for &'a Path {
+    type Item = &'a Segment;
+
+    type IntoIter = Segments<'a>;
+
+    ghost into_iter_gives = { λ path segments. segments ≡ path.now };
+
+    fn into_iter(self) -> Segments<'a> {
+        self.iter()
+    }
+}
+
 #[cfg(test)]
 mod tests {
     use super::*;
-    use std::alloc::AllocError;
     use std::test::Fail;
 
     // What a caller of `to_string` knows.
@@ -176,6 +224,8 @@ mod tests {
         for (segment, want) in steps {
             path.push(segment).ok().ok_or("no memory")?;
             assert_eq!(rt; shown(alloc, &path)?.as_str(), want);
+            let copy = path.try_clone(alloc)?;
+            assert_eq!(rt; shown(alloc, &copy)?.as_str(), want);
         }
         assert_eq!(rt; path.len(), 4);
         Ok(())

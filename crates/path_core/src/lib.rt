@@ -1,0 +1,9 @@
+//! Errors that know the path of what they are about: a port of `serde_path_to_error`.
+#![tactic(auto)]
+
+mod error;
+#[cfg(test)]
+mod tests;
+
+pub use data_core::{Path, Segment, Segments, Track};
+pub use error::Error;
