@@ -1,4 +1,4 @@
-//! Errors that know the path of what they are about: a port of `serde_path_to_error`.
+//! Errors that know the path of what they are about, of `serde_path_to_error`.
 #![tactic(auto)]
 
 mod error;
