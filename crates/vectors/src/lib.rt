@@ -1,0 +1,7 @@
+//! Worked rows on calls, and rows that cross the crates, as tests.
+#![tactic(auto)]
+
+#[cfg(test)]
+mod options;
+#[cfg(test)]
+mod paths;
