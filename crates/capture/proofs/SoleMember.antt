@@ -26,13 +26,17 @@ sole-first (e ∷ []) (Some p) one some h =
     ap (λ (m : Entry). Some (string_bytes m.0, view m.1)) same
 sole-first (e ∷ f ∷ es) r one some h = absurd (omega arith)
 
+-- an only member is all there is
+sole-alone : (ms : Members) (tag : List ℕ) (d : Data) → sole ms ≡ Some (tag, d) → ms ≡ member tag d no_members
+sole-alone no_members tag d e = cc
+sole-alone (member name f no_members) tag d e =
+    let same : ◌≡◌ {A = List ℕ × Data} (name, f) (tag, d) = ap (λ (o : Option (List ℕ × Data)). unwrap_or o (name, f)) e in
+    ap (λ (m : List ℕ × Data). member m.0 m.1 no_members) same
+sole-alone (member name f (member other g ms)) tag d e = cc
+
 -- the word of an only member, and of none
 pub shape_of-sole : (ms : Members) (tag : List ℕ) (d : Data) → sole ms ≡ Some (tag, d) → shape_of (object ms) ≡ tagged_shape tag d (shape_of d)
-shape_of-sole no_members tag d e = cc
-shape_of-sole (member name f no_members) tag d e =
-    let same : ◌≡◌ {A = List ℕ × Data} (name, f) (tag, d) = ap (λ (o : Option (List ℕ × Data)). unwrap_or o (name, f)) e in
-    ap (λ (m : List ℕ × Data). tagged_shape m.0 m.1 (shape_of m.1)) same
-shape_of-sole (member name f (member other g ms)) tag d e = cc
+shape_of-sole ms tag d e = rw (sole-alone ms tag d e) refl
 
 pub shape_of-none : (ms : Members) → sole ms ≡ None → shape_of (object ms) ≡ None
 shape_of-none no_members e = refl
@@ -40,11 +44,7 @@ shape_of-none (member name f no_members) e = cc
 shape_of-none (member name f (member other g ms)) e = refl
 
 pub tree_of-sole : (ms : Members) (tag : List ℕ) (d : Data) → sole ms ≡ Some (tag, d) → tree_of (object ms) ≡ tagged_tree tag d (tree_of d)
-tree_of-sole no_members tag d e = cc
-tree_of-sole (member name f no_members) tag d e =
-    let same : ◌≡◌ {A = List ℕ × Data} (name, f) (tag, d) = ap (λ (o : Option (List ℕ × Data)). unwrap_or o (name, f)) e in
-    ap (λ (m : List ℕ × Data). tagged_tree m.0 m.1 (tree_of m.1)) same
-tree_of-sole (member name f (member other g ms)) tag d e = cc
+tree_of-sole ms tag d e = rw (sole-alone ms tag d e) refl
 
 pub tree_of-none : (ms : Members) → sole ms ≡ None → tree_of (object ms) ≡ None
 tree_of-none no_members e = refl
@@ -53,11 +53,6 @@ tree_of-none (member name f (member other g ms)) e = refl
 
 -- an only member nests less deep than its object
 pub depth-sole : (ms : Members) (tag : List ℕ) (d : Data) → sole ms ≡ Some (tag, d) → depth d < depth (object ms)
-depth-sole no_members tag d e = cc
-depth-sole (member name f no_members) tag d e =
-    let same : ◌≡◌ {A = List ℕ × Data} (name, f) (tag, d) = ap (λ (o : Option (List ℕ × Data)). unwrap_or o (name, f)) e in
-    let deep : depth f ≡ depth d = ap (λ (m : List ℕ × Data). depth m.1) same in
-    omega arith
-depth-sole (member name f (member other g ms)) tag d e = cc
+depth-sole ms tag d e = rw (sole-alone ms tag d e) omega arith
 
 pub ruleset soles = (shape_of-sole, shape_of-none, tree_of-sole, tree_of-none, depth-sole)
