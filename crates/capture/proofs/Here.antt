@@ -1,4 +1,4 @@
--- A scalar is refused where it stands.
+-- Scalars, and options of them, are refused where they stand.
 use Rattle.std.proofs.Common.{◌≡◌, ℕ, Bool, true, false, pos, negsuc, [], refl, Option, Some, None, Result, Ok, Err, nat_le, cond}
 use Rattle.std.specs.Str.{chars, is_utf8}
 use Rattle.data_core.specs.Only.{only}
@@ -113,7 +113,7 @@ refused_here None o tracks old new here h = tt
 refused_here (Some f) (given d) tracks old new here h = cc (h.1)
 refused_here (Some f) (refused g path) tracks old new here h = rw here cc (h.1)
 
--- what a reader of a scalar shape hands out is the outcome, refused at the empty path if it is refused
+-- what a reader hands out is the outcome, refused at the empty path if it is refused
 pub answers_here : {E : Type 0} (fault : E → Option Fault) (tracks : Bool) (r : Result code.Data E) (a : Shape) (o : Offer) (old new : Refusal)
     → Among fault tracks r (IsOutcome (visited a o)) old new → Answers fault data_view r (visited a o)
 answers_here fault tracks (Ok d) a o old new h = h.0

@@ -42,14 +42,14 @@ fn read_tree(alloc: Global, shape: &Shape, value: Value) -> Result<Data, ReadErr
     ensures { Hands result (first_tree (shape_view shape.now) (node_view value)) }
 {
     let d: ValueDeserializer<DeserializerError> = ValueDeserializer::new(alloc, value);
-    match read_scalar(alloc, shape, d) {
+    match read_here(alloc, shape, d) {
         Ok(data) => Ok(data),
         Err(error) => Err(refusal(alloc, error)),
     }
 }
 
-// The value of a scalar shape, or the error that refuses it where it stands.
-fn read_scalar<D: Deserializer>(alloc: Global, shape: &Shape, d: D) -> Result<Data, D::Error>
+// The value of the shape, or the error that refuses it where it stands.
+fn read_here<D: Deserializer>(alloc: Global, shape: &Shape, d: D) -> Result<Data, D::Error>
     ensures { AnswersHere D.Error.fault data_view result (first_source (shape_view shape.now) (D.source d)) }
 {
     let mut track = Track::new(alloc);

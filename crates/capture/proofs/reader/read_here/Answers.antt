@@ -2,7 +2,7 @@ use Rattle.data_core.specs.Source.{offer_of}
 use Rattle.shape.specs.First.{asks}
 use Rattle.shape.specs.View.{shape_view}
 use Rattle.capture.proofs.Here.{answers_here}
-use Rattle.capture.proofs.reader.read_scalar.Goals as goal
+use Rattle.capture.proofs.reader.read_here.Goals as goal
 
 pub returns : goal.returns
 returns g c =
