@@ -1,9 +1,10 @@
 -- Refusals on their way out of nested reads.
-use Rattle.std.proofs.Common.{◌≡◌, Bool, List, Option, Some, None, refl}
+use Rattle.std.proofs.Common.{◌≡◌, ◌≢◌, ◌↔◌, Bool, true, false, IsTrue, List, [], ◌∷◌, Option, Some, None, Result, Ok, Err, is_err, refl, ap, sym}
 use Rattle.data_core.specs.declared.fault.Fault.{Fault}
 use Rattle.data_core.specs.declared.path.Segment.{Segment}
-use Rattle.data_core.specs.Tracking.{Refusal, clear}
-use Rattle.data_core.specs.Outcome.{Outcome, given, refused, and_then, IsRefused}
+use Rattle.data_core.specs.Fault.{IsCalled}
+use Rattle.data_core.specs.Tracking.{Refusal, clear, held, marked, HoldsPath, left, left_with}
+use Rattle.data_core.specs.Outcome.{Outcome, given, refused, under, and_then, IsRefused, Gives}
 
 -- the second outcome is refused wherever the first is
 abbrev pub Carries : {A B : Type 0} → Outcome A → Outcome B → Type 0
@@ -20,3 +21,42 @@ IsRefused-whole tracks None o p old before new clears carries h = tt
 IsRefused-whole tracks (Some f) (given a) p old before new clears carries h = absurd h
 IsRefused-whole tracks (Some f) (refused g path) p old before new clears carries h =
     rw (carries g path refl) (h.0, λ t c. h.1 t (clears c))
+
+-- a refusal that a reader makes itself, outside of every nested read
+pub IsRefused-here : {A : Type 0} (tracks : Bool) (fault : Option Fault) (f : Fault) (o : Outcome A) (old new : Refusal)
+    → IsCalled fault f → o ≡ refused f [] → (old ≡ clear → new ≡ clear) → IsRefused tracks fault o old new
+IsRefused-here tracks None f o old new h e clears = tt
+IsRefused-here tracks (Some g) f o old new h e clears = rw e (sym h, λ t c. rw (clears c) refl)
+
+HoldsPath-left_with : (segment : Segment) (mid : Refusal) (path : List Segment) → HoldsPath mid path → HoldsPath (left_with segment true mid) (segment ∷ path)
+HoldsPath-left_with segment clear path h = ap (λ p. segment ∷ p) (sym h)
+HoldsPath-left_with segment (held p) path h = ap (λ p. segment ∷ p) h
+HoldsPath-left_with segment marked path h = h
+
+pub HoldsPath-left : (tracks before : Bool) (segment : Segment) (old mid : Refusal) (path : List Segment)
+    → (IsTrue before ↔ (old ≢ clear)) → (tracks ≡ true → old ≡ clear → HoldsPath mid path)
+    → tracks ≡ true → old ≡ clear → HoldsPath (left tracks segment before true mid) (segment ∷ path)
+HoldsPath-left false before segment old mid path w h t c = absurd (cc)
+HoldsPath-left true true segment old mid path w h t c = absurd (w.0 refl c)
+HoldsPath-left true false segment old mid path w h t c = HoldsPath-left_with segment mid path (h t c)
+
+-- the refusal of a nested read, once its segment is put before the path
+IsRefused-left : {A : Type 0} (tracks before : Bool) (segment : Segment) (fault : Option Fault) (o : Outcome A) (old mid new : Refusal)
+    → (IsTrue before ↔ (old ≢ clear)) → IsRefused tracks fault o old mid → new ≡ left tracks segment before true mid → IsRefused tracks fault (under segment o) old new
+IsRefused-left tracks before segment None o old mid new w h e = tt
+IsRefused-left tracks before segment (Some f) (given a) old mid new w h e = absurd h
+IsRefused-left tracks before segment (Some f) (refused g path) old mid new w h e =
+    rw e (h.0, HoldsPath-left tracks before segment old mid path w h.1)
+
+pub left-clear : (tracks before : Bool) (segment : Segment) (mid : Refusal) → mid ≡ clear → left tracks segment before false mid ≡ clear
+left-clear false before segment mid e = e
+left-clear true true segment mid e = e
+left-clear true false segment mid e = rw e refl
+
+-- what a nested read answered, once its segment is put before the path
+pub Gives-left : {A B E : Type 0} (fault : E → Option Fault) (tracks before : Bool) (segment : Segment) (view : B → A) (r : Result B E) (o : Outcome A) (old mid new : Refusal)
+    → (IsTrue before ↔ (old ≢ clear)) → Gives fault tracks view r o old mid → new ≡ left tracks segment before (is_err r) mid → Gives fault tracks view r (under segment o) old new
+Gives-left fault tracks before segment view (Ok b) o old mid new w h e =
+    rw (h.0, e) (refl, λ c. left-clear tracks before segment mid (h.1 c))
+Gives-left fault tracks before segment view (Err x) o old mid new w h e =
+    IsRefused-left tracks before segment (fault x) o old mid new w h e

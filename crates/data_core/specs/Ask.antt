@@ -24,6 +24,9 @@ pub data Ask : Type 0 where
   option : Ask
   unit : Ask
   unit_struct : List ℕ → Ask
+  seq : Ask
+  tuple : ℕ → Ask
+  tuple_struct : List ℕ → ℕ → Ask
   identifier : Ask
   ignored_any : Ask
 
@@ -48,5 +51,8 @@ ask hints.ByteBuf = byte_buf
 ask hints.Option = option
 ask hints.Unit = unit
 ask (hints.UnitStruct name) = unit_struct name.now
+ask hints.Seq = seq
+ask (hints.Tuple len) = tuple len
+ask (hints.TupleStruct name len) = tuple_struct name.now len
 ask hints.Identifier = identifier
 ask hints.IgnoredAny = ignored_any

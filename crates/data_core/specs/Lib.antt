@@ -3,6 +3,7 @@ pub mod Fault
 pub mod Unexpected
 pub mod Ask
 pub mod Source
+pub mod Sequence
 pub mod Node
 pub mod Depth
 pub mod NodeCode

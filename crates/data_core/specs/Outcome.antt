@@ -1,5 +1,5 @@
 -- What a reader makes of a source: a value, or a fault at a path.
-use Rattle.std.specs.Prelude.{List, [], Bool, true, Option, Result, Some, None, Ok, Err, ◌≡◌}
+use Rattle.std.specs.Prelude.{List, [], ◌∷◌, Bool, true, Option, Result, Some, None, Ok, Err, ◌≡◌}
 use Rattle.data_core.specs.declared.fault.Fault.{Fault}
 use Rattle.data_core.specs.declared.path.Segment.{Segment}
 use Rattle.data_core.specs.Source.{Offer}
@@ -10,6 +10,11 @@ use Rattle.data_core.specs.Tracking.{Refusal, clear, HoldsPath}
 pub data Outcome (A : Type 0) : Type 0 where
   given : A → Outcome A
   refused : Fault → List Segment → Outcome A
+
+-- the same outcome one level further out
+abbrev pub under : {A : Type 0} → Segment → Outcome A → Outcome A
+under segment (given a) = given a
+under segment (refused f path) = refused f (segment ∷ path)
 
 -- an outcome that the next step goes on from
 abbrev pub and_then : {A B : Type 0} → Outcome A → (A → Outcome B) → Outcome B
@@ -54,3 +59,7 @@ Among fault tracks (Err e) is_outcome old new = RefusedAmong tracks (fault e) is
 -- an offer that is a refusal is read as that refusal, here
 abbrev pub PassesRefusals : {S A : Type 0} → (S → Offer → Outcome A → Type 0) → Type 0
 PassesRefusals {S} reads = (seed : S) (f : Fault) → reads seed (source.refused f) (refused f [])
+
+-- whatever the first relation reads an offer as, the second does
+abbrev pub IsWithin : {A : Type 0} → (Offer → Outcome A → Type 0) → (Offer → Outcome A → Type 0) → Type 0
+IsWithin {A} reads all = (offer : Offer) (outcome : Outcome A) → reads offer outcome → all offer outcome

@@ -3,7 +3,7 @@ use Rattle.data_core.specs.declared.fault.Fault.{Fault}
 use Rattle.data_core.specs.declared.fault.Fault.TheVariants.{InvalidType}
 use Rattle.data_core.specs.declared.fault.Kind.{Kind}
 use Rattle.data_core.specs.declared.fault.Kind.TheVariants as kind
-use Rattle.data_core.specs.Source.{Scalar, boolean, unsigned, signed, wide, character, text, bytes, none, unit, Offer, scalar, some_itself, some, refused}
+use Rattle.data_core.specs.Source.{Scalar, boolean, unsigned, signed, wide, character, text, bytes, none, unit, Offer, scalar, some_itself, some, elements, refused}
 
 -- what a reader sees of a scalar: of a character, its text
 abbrev pub kind_visited : Scalar → Kind
@@ -22,4 +22,5 @@ abbrev pub fault_of : Offer → Fault
 fault_of (scalar s) = InvalidType (kind_visited s)
 fault_of some_itself = InvalidType kind.Option
 fault_of (some s) = InvalidType kind.Option
+fault_of (elements checks ss) = InvalidType kind.Seq
 fault_of (refused f) = f

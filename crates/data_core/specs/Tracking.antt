@@ -1,5 +1,6 @@
 -- The path of the first refusal, as it grows on the way out of nested reads.
-use Rattle.std.specs.Prelude.{List, [], ◌∷◌, ◌≡◌, Option, Some, None}
+use Rattle.std.specs.Prelude.{List, [], ◌∷◌, ◌≡◌, Bool, true, false, Option, Some, None, Result, Ok, Err}
+use Rattle.data_core.specs.declared.fault.Fault.{Fault}
 use Rattle.data_core.specs.declared.path.Segment.{Segment}
 
 pub data Refusal : Type 0 where
@@ -32,3 +33,19 @@ abbrev pub added : Segment → Refusal → Refusal
 added segment clear = clear
 added segment (held p) = held (segment ∷ p)
 added segment marked = marked
+
+-- after a nested read that failed, or not: a refusal that was swallowed in it gets the segment too
+abbrev pub left_with : Segment → Bool → Refusal → Refusal
+left_with segment true now = added segment (noted (Some []) now)
+left_with segment false now = added segment now
+
+-- a deserializer that tracks adds its segment, unless a refusal was noted before the nested read
+abbrev pub left : Bool → Segment → Bool → Bool → Refusal → Refusal
+left false segment before failed now = now
+left true segment true failed now = now
+left true segment false failed now = left_with segment failed now
+
+-- what the way out of a nested read answers, by the track before and after
+abbrev pub Leaves : {E : Type 0} → (E → Option Fault) → Bool → Segment → Bool → Bool → Refusal → Refusal → Result (Unit {0}) E → Type 0
+Leaves fault tracks segment before failed old new (Ok u) = new ≡ left tracks segment before failed old
+Leaves fault tracks segment before failed old new (Err e) = fault e ≡ None

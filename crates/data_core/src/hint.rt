@@ -1,7 +1,7 @@
 //! What a reader asks a deserializer for.
 
 /// What a reader hopes for: one variant for each of serde's `deserialize_` calls that asks for a
-/// scalar or an option. A deserializer whose format says what it holds may show something else.
+/// scalar, an option or a sequence. A deserializer whose format says what it holds may show something else.
 #[derive(Clone, Copy)]
 pub enum Hint<'a> {
     Any,
@@ -24,6 +24,11 @@ pub enum Hint<'a> {
     Option,
     Unit,
     UnitStruct(&'a str),
+    Seq,
+    /// A sequence of so many elements.
+    Tuple(usize),
+    /// A tuple struct: its name, and how many elements it has.
+    TupleStruct(&'a str, usize),
     Identifier,
     IgnoredAny,
 }

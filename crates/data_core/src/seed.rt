@@ -2,7 +2,7 @@
 ghost use Rattle.std.specs.Prelude.{◌≡◌};
 ghost use Rattle.data_core.specs.Ask.{Ask, ask};
 ghost use Rattle.data_core.specs.Source.{Offer, offer_of};
-ghost use Rattle.data_core.specs.Show.{shown_offer};
+ghost use Rattle.data_core.specs.Show.{shown_offer, Begins};
 ghost use Rattle.data_core.specs.Outcome.{Outcome, Among, PassesRefusals};
 
 use crate::de::{Deserializer, Shown};
@@ -31,8 +31,9 @@ pub trait DeserializeSeed: Drop + Sized {
         shown: Shown<D>,
         track: &mut Track,
     ) -> Result<Self::Value, D::Error>
+        requires { Begins D.sequence shown }
         ensures { Among D.Error.fault D.tracks result
-            (reads self (shown_offer D.Text.text D.Bytes.bytes D.source shown)) track.old track.new };
+            (reads self (shown_offer D.Text.text D.Bytes.bytes D.source D.sequence shown)) track.old track.new };
 
     ghost passes_refusals: { PassesRefusals reads };
 

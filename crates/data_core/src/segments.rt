@@ -92,6 +92,7 @@ mod tests {
         assert_eq!(rt; steps(alloc, &path)?.len(), 3);
         let mut segments = path.iter();
         assert_eq!(rt; segments.len(), 3);
+        assert_eq!(rt; segments.size_hint(), (3, Some(3)));
         assert!(rt; matches!(segments.next(), Some(Segment::Seq { index: 5 })));
         assert!(rt; matches!(segments.next_back(), Some(Segment::Seq { index: 7 })));
         assert_eq!(rt; segments.len(), 1);
