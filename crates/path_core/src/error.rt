@@ -46,6 +46,14 @@ impl<E> Error<E> {
     {
         self.original
     }
+
+    /// The path and the error, which are moved. It is this project's own.
+    pub fn into_parts(self) -> (Path, E)
+        ensures path { result.0 ≡ path_of self }
+        ensures original { result.1 ≡ original_of self }
+    {
+        (self.path, self.original)
+    }
 }
 
 /// The path, a colon and the error. The error alone where no segment of the path is known.
