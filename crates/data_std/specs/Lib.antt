@@ -1,0 +1,9 @@
+pub mod Reads
+pub mod Ignored
+pub mod ErrorView
+pub mod Scalars
+pub mod Integer
+pub mod Compound
+pub mod Waiting
+pub mod Items
+pub mod Sequences

@@ -1,0 +1,56 @@
+//! Readers of options.
+ghost use Rattle.std.specs.Prelude.{refl};
+ghost use Rattle.data_core.specs.Ask as asks;
+ghost use Rattle.data_std.specs.Reads.{ReadsFrom};
+ghost use Rattle.data_std.specs.Compound.{OptionReads};
+
+use crate::reading::deserialize;
+use crate::types::Deserialize;
+use data_core::{DeserializeSeed, Deserializer, Hint, Scalar, Shown, Track, refused};
+use std::alloc::{AllocError, Global};
+use std::marker::PhantomData;
+
+/// The reader of `Option<T>`: what is absent and a unit are none, and what is there is read as `T`.
+#[derive(Drop)]
+pub struct OptionSeed<T: Deserialize> {
+    of: PhantomData<T>,
+}
+
+impl<T: Deserialize> DeserializeSeed for OptionSeed<T> {
+    type Value = Option<T>;
+
+    ghost asks = { λ _. asks.option };
+
+    ghost reads = { λ _. OptionReads (ReadsFrom T.asks T.reads) };
+
+    fn hint(&self) -> Hint<'_> {
+        Hint::Option
+    }
+
+    fn visit<D: Deserializer>(
+        self,
+        alloc: Global,
+        shown: Shown<D>,
+        track: &mut Track,
+    ) -> Result<Option<T>, D::Error> {
+        match shown {
+            Shown::Scalar(Scalar::None | Scalar::Unit) => Ok(None),
+            Shown::Some(inner) => Ok(Some(deserialize(alloc, inner, track)?)),
+            other => Err(refused(alloc, other, "option")),
+        }
+    }
+
+    ghost passes_refusals = { λ _ _. refl };
+}
+
+impl<T: Deserialize> Deserialize for Option<T> {
+    type Seed = OptionSeed<T>;
+
+    ghost asks = { asks.option };
+
+    ghost reads = { OptionReads (ReadsFrom T.asks T.reads) };
+
+    fn seed(_alloc: Global) -> Result<OptionSeed<T>, AllocError> {
+        Ok(OptionSeed { of: PhantomData })
+    }
+}
