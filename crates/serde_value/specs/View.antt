@@ -1,6 +1,6 @@
 -- A tree without where it lies in memory.
 use Rattle.std.specs.Prelude.{None, Some, string_bytes}
-use Rattle.data_core.specs.Node.{Node, boolean, u8, u16, u32, u64, i8, i16, i32, i64, character, string, unit, none, some, bytes}
+use Rattle.data_core.specs.Node.{Node, boolean, u8, u16, u32, u64, i8, i16, i32, i64, character, string, unit, none, some, seq, bytes, nodes_of}
 use Rattle.serde_value.specs.declared.value.Value.{Value}
 use Rattle.serde_value.specs.declared.value.Value.TheVariants as code
 
@@ -19,4 +19,5 @@ node_view (code.String s) = string (string_bytes s)
 node_view code.Unit = unit
 node_view (code.Option None) = none
 node_view (code.Option (Some held)) = some held
+node_view (code.Seq ns) = seq (nodes_of ns)
 node_view (code.Bytes b) = bytes b.items

@@ -6,7 +6,7 @@ mod error;
 mod unexpected;
 mod value;
 
-pub use de::ValueDeserializer;
+pub use de::{ValueDeserializer, ValueElements};
 pub use error::DeserializerError;
 pub use unexpected::Unexpected;
-pub use value::{Held, Value};
+pub use value::{Held, Items, Value};
