@@ -1,2 +1,5 @@
+pub mod Depths
+pub mod InMemory
 pub mod Seeds
-pub mod Texts
+pub mod Steps
+pub mod Views

@@ -1,15 +1,19 @@
 -- The first outcome of a shape over a source: its value, or the first fault with the path to it.
-use Rattle.std.specs.Prelude.{ℕ, ℤ, Bool, ◌^◌, ◌-◌, [], Option, Some, None, pos, negsuc, nat_le, if◌then◌else◌, encode_utf8}
+use Rattle.std.specs.Prelude.{ℕ, ℤ, Bool, ◌^◌, ◌+◌, ◌-◌, List, [], ◌∷◌, Option, Some, None, pos, negsuc, nat_le, if◌then◌else◌, encode_utf8}
 use Rattle.std.specs.Str.{chars, is_utf8}
-use Rattle.data_core.specs.declared.fault.Fault.TheVariants.{InvalidValue}
+use Rattle.data_core.specs.declared.fault.Fault.{Fault}
+use Rattle.data_core.specs.declared.fault.Fault.TheVariants.{InvalidLength, InvalidValue}
 use Rattle.data_core.specs.declared.fault.Kind.TheVariants as kind
 use Rattle.data_core.specs.Only.{only}
 use Rattle.data_core.specs.Ask as ask
 use Rattle.data_core.specs.Ask.{Ask}
-use Rattle.data_core.specs.Source.{Source, Offer, scalar, offer_of}
+use Rattle.data_core.specs.Source.{Source, Sources, end, more, Offer, scalar, elements, offer_of}
 use Rattle.data_core.specs.Source as offer
-use Rattle.data_core.specs.Outcome.{Outcome, given, refused, and_then, not_taken}
-use Rattle.shape.specs.Shape.{Shape, boolean, u8, u16, u32, u64, i8, i16, i32, i64, character, text, bytes, unit, unit_struct, option, Data, boolean_data, unsigned, signed, character_data, text_data, bytes_data, unit_data, nothing, something}
+use Rattle.data_core.specs.Outcome.{Outcome, given, refused, under, and_then, not_taken}
+use Rattle.data_core.specs.Sequence.{surplus}
+use Rattle.data_core.specs.declared.path.Segment.TheVariants.{Seq}
+use Rattle.data_std.specs.Ignored.{ignored_rest}
+use Rattle.shape.specs.Shape.{Shape, boolean, u8, u16, u32, u64, i8, i16, i32, i64, character, text, bytes, unit, unit_struct, option, seq, tuple, tuple_struct, prefix, prefix_struct, number_of, Shapes, no_shapes, shape, Data, boolean_data, unsigned, signed, character_data, text_data, bytes_data, unit_data, nothing, something, seq_data, parts_of}
 
 -- what a shape hopes for
 abbrev pub asks : Shape → Ask
@@ -28,6 +32,11 @@ asks bytes = ask.byte_buf
 asks unit = ask.unit
 asks (unit_struct name) = ask.unit_struct name
 asks (option a) = ask.option
+asks (seq a) = ask.seq
+asks (tuple row) = ask.tuple (number_of row)
+asks (tuple_struct name row) = ask.tuple_struct name (number_of row)
+asks (prefix row) = ask.tuple (number_of row)
+asks (prefix_struct name row) = ask.tuple_struct name (number_of row)
 
 -- the boolean, and nothing else
 abbrev pub boolean_of : Offer → Outcome Data
@@ -87,23 +96,69 @@ option_of read (scalar offer.unit) = given nothing
 option_of read (offer.some s) = and_then (read s) (λ d. given (something d))
 option_of read o = not_taken o
 
--- what a shape makes of an offer
-abbrev pub visited : Shape → Offer → Outcome Data
-visited boolean o = boolean_of o
-visited u8 o = unsigned_of (2 ^ 8 - 1) o
-visited u16 o = unsigned_of (2 ^ 16 - 1) o
-visited u32 o = unsigned_of (2 ^ 32 - 1) o
-visited u64 o = unsigned_of (2 ^ 64 - 1) o
-visited i8 o = signed_of (2 ^ 7 - 1) o
-visited i16 o = signed_of (2 ^ 15 - 1) o
-visited i32 o = signed_of (2 ^ 31 - 1) o
-visited i64 o = signed_of (2 ^ 63 - 1) o
-visited character o = character_of o
-visited text o = text_of o
-visited bytes o = bytes_of o
-visited unit o = unit_of o
-visited (unit_struct name) o = unit_of o
-visited (option a) o = option_of (λ s. visited a (offer_of s (asks a))) o
+-- what was read of elements, as one datum
+abbrev pub elements_data : Outcome (List Data) → Outcome Data
+elements_data o = and_then o (λ ds. given (seq_data (parts_of ds)))
+
+-- each element in order, from a place in the sequence on, up to the first fault
+abbrev pub each : (Source → Outcome Data) → ℕ → Sources → Outcome (List Data)
+each read i end = given []
+each read i (more s ss) = and_then (under (Seq i) (read s)) (λ d. and_then (each read (i + 1) ss) (λ ds. given (d ∷ ds)))
+
+-- each element of a sequence
+abbrev pub seq_of : (Source → Outcome Data) → Offer → Outcome Data
+seq_of read (elements checks ss) = elements_data (each read 0 ss)
+seq_of read o = not_taken o
+
+-- an element for each reader in order, from a place on, and then what becomes of those that are left
+abbrev pub row_of : (ℕ → Sources → Outcome (Unit {0})) → List (Source → Outcome Data) → ℕ → Sources → Outcome (List Data)
+row_of rest [] i ss = and_then (rest i ss) (λ u. given [])
+row_of rest (read ∷ reads) i end = refused (InvalidLength i) []
+row_of rest (read ∷ reads) i (more s ss) =
+    and_then (under (Seq i) (read s)) (λ d. and_then (row_of rest reads (i + 1) ss) (λ ds. given (d ∷ ds)))
+
+-- nothing, unless there is this fault
+abbrev pub unless : Option Fault → Outcome (Unit {0})
+unless None = given tt
+unless (Some f) = refused f []
+
+-- a tuple: elements that are left are refused where the end is checked
+abbrev pub tuple_of : List (Source → Outcome Data) → Offer → Outcome Data
+tuple_of reads (elements checks ss) = elements_data (row_of (λ i left. unless (surplus checks i left)) reads 0 ss)
+tuple_of reads o = not_taken o
+
+-- the first elements: those that are left are read as what is ignored
+abbrev pub prefix_of : List (Source → Outcome Data) → Offer → Outcome Data
+prefix_of reads (elements checks ss) = elements_data (row_of ignored_rest reads 0 ss)
+prefix_of reads o = not_taken o
+
+abbrev mutual
+  -- what a shape makes of an offer
+  pub visited : Shape → Offer → Outcome Data
+  visited boolean o = boolean_of o
+  visited u8 o = unsigned_of (2 ^ 8 - 1) o
+  visited u16 o = unsigned_of (2 ^ 16 - 1) o
+  visited u32 o = unsigned_of (2 ^ 32 - 1) o
+  visited u64 o = unsigned_of (2 ^ 64 - 1) o
+  visited i8 o = signed_of (2 ^ 7 - 1) o
+  visited i16 o = signed_of (2 ^ 15 - 1) o
+  visited i32 o = signed_of (2 ^ 31 - 1) o
+  visited i64 o = signed_of (2 ^ 63 - 1) o
+  visited character o = character_of o
+  visited text o = text_of o
+  visited bytes o = bytes_of o
+  visited unit o = unit_of o
+  visited (unit_struct name) o = unit_of o
+  visited (option a) o = option_of (λ s. visited a (offer_of s (asks a))) o
+  visited (seq a) o = seq_of (λ s. visited a (offer_of s (asks a))) o
+  visited (tuple row) o = tuple_of (readers row) o
+  visited (tuple_struct name row) o = tuple_of (readers row) o
+  visited (prefix row) o = prefix_of (readers row) o
+  visited (prefix_struct name row) o = prefix_of (readers row) o
+
+  pub readers : Shapes → List (Source → Outcome Data)
+  readers no_shapes = []
+  readers (shape a rest) = (λ s. visited a (offer_of s (asks a))) ∷ readers rest
 
 abbrev pub first : Shape → Source → Outcome Data
 first a s = visited a (offer_of s (asks a))

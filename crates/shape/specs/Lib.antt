@@ -1,6 +1,12 @@
 pub mod Shape
+pub mod DataCode
+pub mod Depth
 pub mod First
 pub mod View
-pub mod Seed
+pub mod Steps
+pub mod Sizes
 pub mod Refusals
 pub mod ShapeSeed
+pub mod Upgraded
+pub mod InMemory
+pub mod Integer

@@ -1,19 +1,21 @@
 //! Readers by shape.
 ghost use Rattle.std.specs.Prelude.{◌≡◌};
 ghost use Rattle.data_core.specs.Ask.{ask};
-ghost use Rattle.data_core.specs.Show.{shown_offer};
+ghost use Rattle.data_core.specs.Show.{shown_offer, Begins};
 ghost use Rattle.data_core.specs.Outcome.{Gives};
 ghost use Rattle.shape.specs.First.{asks, visited, first, option_of};
 ghost use Rattle.shape.specs.View.{shape_view, data_view};
 
-use crate::data::{Data, Shape};
+use crate::data::{Data, DataHeld, Shape};
+use crate::rows::{visit_prefix, visit_seq, visit_tuple};
 use crate::scalars::{
     visit_bool, visit_bytes, visit_char, visit_signed, visit_text, visit_unit, visit_unsigned,
 };
 use data_core::{DeError, Deserializer, Hint, Scalar, Shown, Track, refused};
 use std::alloc::Global;
 
-/// What a shape hopes for.
+/// What a shape hopes for. Takes no memory.
+#[tactic(auto, using(crate::proofs::Views::rows))]
 pub fn hint(shape: &Shape) -> Hint<'_>
     ensures { ask result ≡ asks (shape_view shape.now) }
 {
@@ -33,6 +35,11 @@ pub fn hint(shape: &Shape) -> Hint<'_>
         Shape::Unit => Hint::Unit,
         Shape::UnitStruct(name) => Hint::UnitStruct(name.as_str()),
         Shape::Option(_) => Hint::Option,
+        Shape::Seq(_) => Hint::Seq,
+        Shape::Tuple(shapes) => Hint::Tuple(shapes.len()),
+        Shape::TupleStruct(name, shapes) => Hint::TupleStruct(name.as_str(), shapes.len()),
+        Shape::Prefix(shapes) => Hint::Tuple(shapes.len()),
+        Shape::PrefixStruct(name, shapes) => Hint::TupleStruct(name.as_str(), shapes.len()),
     }
 }
 
@@ -40,7 +47,7 @@ pub fn hint(shape: &Shape) -> Hint<'_>
 /// held before.
 #[cycle(read)]
 #[tactic(auto, using(crate::specs::Refusals::visited_refused))]
-fn read<D: Deserializer>(
+pub fn read<D: Deserializer>(
     alloc: Global,
     shape: &Shape,
     d: D,
@@ -54,7 +61,8 @@ fn read<D: Deserializer>(
 }
 
 /// Makes data of a shape of what is shown. `track` then holds the path of a refusal, if `D` tracks
-/// and no path was held before.
+/// and no path was held before. It recurses as deep as the shape nests, and takes memory for elements
+/// as they come, however many are said to be left.
 #[cycle(read)]
 pub fn visit<D: Deserializer>(
     alloc: Global,
@@ -62,8 +70,9 @@ pub fn visit<D: Deserializer>(
     shown: Shown<D>,
     track: &mut Track,
 ) -> Result<Data, D::Error>
+    requires { Begins D.sequence shown }
     ensures { Gives D.Error.fault D.tracks data_view result
-        (visited (shape_view shape.now) (shown_offer D.Text.text D.Bytes.bytes D.source shown))
+        (visited (shape_view shape.now) (shown_offer D.Text.text D.Bytes.bytes D.source D.sequence shown))
         track.old track.new }
 {
     match shape {
@@ -82,6 +91,13 @@ pub fn visit<D: Deserializer>(
         Shape::Unit => visit_unit(alloc, shown, "unit"),
         Shape::UnitStruct(_) => visit_unit(alloc, shown, "unit struct"),
         Shape::Option(inner) => visit_option(alloc, inner, shown, track),
+        Shape::Seq(inner) => visit_seq(alloc, inner, shown, track),
+        Shape::Tuple(shapes) => visit_tuple(alloc, shapes, shown, "tuple", track),
+        Shape::TupleStruct(_, shapes) => visit_tuple(alloc, shapes, shown, "tuple struct", track),
+        Shape::Prefix(shapes) => visit_prefix(alloc, shapes, shown, "tuple", track),
+        Shape::PrefixStruct(_, shapes) => {
+            visit_prefix(alloc, shapes, shown, "tuple struct", track)
+        }
     }
 }
 
@@ -93,7 +109,7 @@ fn visit_option<D: Deserializer>(
     track: &mut Track,
 ) -> Result<Data, D::Error>
     ensures { Gives D.Error.fault D.tracks data_view result
-        (option_of (first (shape_view inner.now)) (shown_offer D.Text.text D.Bytes.bytes D.source shown))
+        (option_of (first (shape_view inner.now)) (shown_offer D.Text.text D.Bytes.bytes D.source D.sequence shown))
         track.old track.new }
 {
     match shown {
@@ -101,7 +117,7 @@ fn visit_option<D: Deserializer>(
         Shown::Some(d) => {
             let value = read(alloc, inner, d, track)?;
             match Box::new(alloc, value) {
-                Ok(value) => Ok(Data::Option(Some(value))),
+                Ok(value) => Ok(Data::Option(Some(DataHeld::from_box(value)))),
                 Err(_) => Err(D::Error::memory()),
             }
         }

@@ -5,6 +5,7 @@ ghost use Rattle.data_core.specs.Source as offer;
 ghost use Rattle.data_core.specs.Show.{shown_offer};
 ghost use Rattle.data_core.specs.Outcome.{Answers};
 ghost use Rattle.shape.specs.First.{boolean_of, unsigned_of, signed_of, within, character_of, text_of, bytes_of, unit_of};
+ghost use Rattle.shape.specs.Integer.{ShowsInteger};
 ghost use Rattle.shape.specs.View.{data_view};
 
 use crate::data::Data;
@@ -16,11 +17,38 @@ use std::alloc::Global;
 /// Takes a boolean. A refusal names `bool` as what was expected.
 pub fn visit_bool<D: Deserializer>(alloc: Global, shown: Shown<D>) -> Result<Data, D::Error>
     ensures { Answers D.Error.fault data_view result
-        (boolean_of (shown_offer D.Text.text D.Bytes.bytes D.source shown)) }
+        (boolean_of (shown_offer D.Text.text D.Bytes.bytes D.source D.sequence shown)) }
 {
     match shown {
         Shown::Scalar(Scalar::Bool(b)) => Ok(Data::Bool(b)),
         other => Err(refused(alloc, other, "bool")),
+    }
+}
+
+// An integer of up to 64 bits, as it came.
+#[derive(Clone, Copy)]
+enum Integer {
+    Unsigned(u64),
+    Signed(i64),
+}
+
+// The integer that is shown, if one of up to 64 bits is.
+fn shown_integer<D: Deserializer>(shown: &Shown<D>) -> Option<Integer>
+    ensures { ShowsInteger (shown_offer D.Text.text D.Bytes.bytes D.source D.sequence shown.now) result }
+{
+    let Shown::Scalar(scalar) = shown else {
+        return None;
+    };
+    match scalar {
+        Scalar::U8(n) => Some(Integer::Unsigned(u64::from(*n))),
+        Scalar::U16(n) => Some(Integer::Unsigned(u64::from(*n))),
+        Scalar::U32(n) => Some(Integer::Unsigned(u64::from(*n))),
+        Scalar::U64(n) => Some(Integer::Unsigned(*n)),
+        Scalar::I8(n) => Some(Integer::Signed(i64::from(*n))),
+        Scalar::I16(n) => Some(Integer::Signed(i64::from(*n))),
+        Scalar::I32(n) => Some(Integer::Signed(i64::from(*n))),
+        Scalar::I64(n) => Some(Integer::Signed(*n)),
+        _ => None,
     }
 }
 
@@ -32,18 +60,12 @@ pub fn visit_unsigned<D: Deserializer>(
     expected: &str,
 ) -> Result<Data, D::Error>
     ensures { Answers D.Error.fault data_view result
-        (unsigned_of greatest (shown_offer D.Text.text D.Bytes.bytes D.source shown)) }
+        (unsigned_of greatest (shown_offer D.Text.text D.Bytes.bytes D.source D.sequence shown)) }
 {
-    match shown {
-        Shown::Scalar(Scalar::U8(n)) => unsigned::<D>(alloc, u64::from(n), greatest, expected),
-        Shown::Scalar(Scalar::U16(n)) => unsigned::<D>(alloc, u64::from(n), greatest, expected),
-        Shown::Scalar(Scalar::U32(n)) => unsigned::<D>(alloc, u64::from(n), greatest, expected),
-        Shown::Scalar(Scalar::U64(n)) => unsigned::<D>(alloc, n, greatest, expected),
-        Shown::Scalar(Scalar::I8(n)) => to_unsigned::<D>(alloc, i64::from(n), greatest, expected),
-        Shown::Scalar(Scalar::I16(n)) => to_unsigned::<D>(alloc, i64::from(n), greatest, expected),
-        Shown::Scalar(Scalar::I32(n)) => to_unsigned::<D>(alloc, i64::from(n), greatest, expected),
-        Shown::Scalar(Scalar::I64(n)) => to_unsigned::<D>(alloc, n, greatest, expected),
-        other => Err(refused(alloc, other, expected)),
+    match shown_integer(&shown) {
+        Some(Integer::Unsigned(n)) => unsigned::<D>(alloc, n, greatest, expected),
+        Some(Integer::Signed(n)) => to_unsigned::<D>(alloc, n, greatest, expected),
+        None => Err(refused(alloc, shown, expected)),
     }
 }
 
@@ -88,18 +110,12 @@ pub fn visit_signed<D: Deserializer>(
 ) -> Result<Data, D::Error>
     requires { greatest < 2 ^ 63 }
     ensures { Answers D.Error.fault data_view result
-        (signed_of greatest (shown_offer D.Text.text D.Bytes.bytes D.source shown)) }
+        (signed_of greatest (shown_offer D.Text.text D.Bytes.bytes D.source D.sequence shown)) }
 {
-    match shown {
-        Shown::Scalar(Scalar::I8(n)) => signed::<D>(alloc, i64::from(n), greatest, expected),
-        Shown::Scalar(Scalar::I16(n)) => signed::<D>(alloc, i64::from(n), greatest, expected),
-        Shown::Scalar(Scalar::I32(n)) => signed::<D>(alloc, i64::from(n), greatest, expected),
-        Shown::Scalar(Scalar::I64(n)) => signed::<D>(alloc, n, greatest, expected),
-        Shown::Scalar(Scalar::U8(n)) => to_signed::<D>(alloc, u64::from(n), greatest, expected),
-        Shown::Scalar(Scalar::U16(n)) => to_signed::<D>(alloc, u64::from(n), greatest, expected),
-        Shown::Scalar(Scalar::U32(n)) => to_signed::<D>(alloc, u64::from(n), greatest, expected),
-        Shown::Scalar(Scalar::U64(n)) => to_signed::<D>(alloc, n, greatest, expected),
-        other => Err(refused(alloc, other, expected)),
+    match shown_integer(&shown) {
+        Some(Integer::Unsigned(n)) => to_signed::<D>(alloc, n, greatest, expected),
+        Some(Integer::Signed(n)) => signed::<D>(alloc, n, greatest, expected),
+        None => Err(refused(alloc, shown, expected)),
     }
 }
 
@@ -150,7 +166,7 @@ fn to_signed<D: Deserializer>(
 /// Takes a character, or a text of exactly one. A refusal names `char` as what was expected.
 pub fn visit_char<D: Deserializer>(alloc: Global, shown: Shown<D>) -> Result<Data, D::Error>
     ensures { Answers D.Error.fault data_view result
-        (character_of (shown_offer D.Text.text D.Bytes.bytes D.source shown)) }
+        (character_of (shown_offer D.Text.text D.Bytes.bytes D.source D.sequence shown)) }
 {
     match shown {
         Shown::Scalar(Scalar::Char(c)) => Ok(Data::Char(c)),
@@ -172,7 +188,7 @@ fn char_of_text<D: Deserializer>(alloc: Global, text: &str) -> Result<Data, D::E
 /// Takes a text, a character, or bytes that are UTF-8. What is owned is moved, and else copied.
 pub fn visit_text<D: Deserializer>(alloc: Global, shown: Shown<D>) -> Result<Data, D::Error>
     ensures { Answers D.Error.fault data_view result
-        (text_of (shown_offer D.Text.text D.Bytes.bytes D.source shown)) }
+        (text_of (shown_offer D.Text.text D.Bytes.bytes D.source D.sequence shown)) }
 {
     match shown {
         Shown::Scalar(Scalar::Text(text)) => match text.into_string(alloc) {
@@ -215,7 +231,7 @@ fn text_of_bytes<D: Deserializer>(alloc: Global, bytes: Vec<u8>) -> Result<Data,
 /// Takes bytes, and no text. What is owned is moved, and else copied.
 pub fn visit_bytes<D: Deserializer>(alloc: Global, shown: Shown<D>) -> Result<Data, D::Error>
     ensures { Answers D.Error.fault data_view result
-        (bytes_of (shown_offer D.Text.text D.Bytes.bytes D.source shown)) }
+        (bytes_of (shown_offer D.Text.text D.Bytes.bytes D.source D.sequence shown)) }
 {
     match shown {
         Shown::Scalar(Scalar::Bytes(bytes)) => match bytes.into_vec(alloc) {
@@ -233,7 +249,7 @@ pub fn visit_unit<D: Deserializer>(
     expected: &str,
 ) -> Result<Data, D::Error>
     ensures { Answers D.Error.fault data_view result
-        (unit_of (shown_offer D.Text.text D.Bytes.bytes D.source shown)) }
+        (unit_of (shown_offer D.Text.text D.Bytes.bytes D.source D.sequence shown)) }
 {
     match shown {
         Shown::Scalar(Scalar::Unit) => Ok(Data::Unit),

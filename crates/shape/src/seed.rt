@@ -1,8 +1,8 @@
 //! A shape as a reader.
 ghost use Rattle.std.specs.Prelude.{◌≡◌};
 ghost use Rattle.shape.specs.First.{asks, visited};
-ghost use Rattle.shape.specs.View.{shape_view};
-ghost use Rattle.shape.specs.Seed.{IsOutcome};
+ghost use Rattle.shape.specs.View.{shape_view, data_view};
+ghost use Rattle.data_std.specs.Reads.{IsOutcome};
 ghost use Rattle.shape.specs.Refusals.{visited_refused};
 
 use crate::data::{Data, Shape};
@@ -34,7 +34,7 @@ impl<'s> DeserializeSeed for ShapeSeed<'s> {
 
     ghost asks = { λ s. asks (shape_view (shape_of s)) };
 
-    ghost reads = { λ s offer outcome. IsOutcome (visited (shape_view (shape_of s)) offer) outcome };
+    ghost reads = { λ s offer outcome. IsOutcome data_view (visited (shape_view (shape_of s)) offer) outcome };
 
     fn hint(&self) -> Hint<'_> {
         hint(self.shape)

@@ -1,95 +1,10 @@
 //! Shapes that are read from one scalar each. The wanted values are those of serde's own readers,
 //! except that bytes are read from no text.
-ghost use Rattle.std.specs.Prelude.{Option, Some, None, false, string_bytes};
-ghost use Rattle.data_core.specs.declared.fault.Fault as code;
-ghost use Rattle.data_core.specs.Source.{source, scalar};
-ghost use Rattle.data_core.specs.Show.{scalar_view};
-
+use crate::memory::{Plain, PlainError};
 use crate::{Data, Shape, ShapeSeed, hint};
-use data_core::{
-    DeError, DeserializeSeed, Deserializer, Fault, Hint, Names, Scalar, Shown, Text, Track,
-    Unexpected,
-};
+use data_core::{DeError, DeserializeSeed, Fault, Hint, Scalar, Text, Track};
 use std::alloc::{AllocError, Global};
 use std::test::Fail;
-
-#[derive(Drop)]
-enum ScalarError {
-    Refused(Fault),
-    Memory,
-}
-
-// A scalar has no names to be refused: such a fault is kept as want of memory, which any may be.
-impl DeError for ScalarError {
-    ghost use Rattle.shape.specs.declared.tests.ScalarError.TheVariants as error;
-
-    ghost fault = { λ e. elim e as (λ _. Option code.Fault) [ error.Refused f ↦ Some f | error.Memory ↦ None ] };
-
-    fn memory() -> ScalarError {
-        ScalarError::Memory
-    }
-
-    fn custom(_alloc: Global, _msg: &str) -> ScalarError {
-        ScalarError::Refused(Fault::Custom)
-    }
-
-    fn invalid_type(_alloc: Global, unexp: Unexpected<'_>, _exp: &str) -> ScalarError {
-        ScalarError::Refused(Fault::InvalidType(unexp.kind()))
-    }
-
-    fn invalid_value(_alloc: Global, unexp: Unexpected<'_>, _exp: &str) -> ScalarError {
-        ScalarError::Refused(Fault::InvalidValue(unexp.kind()))
-    }
-
-    fn invalid_length(_alloc: Global, len: usize, _exp: &str) -> ScalarError {
-        ScalarError::Refused(Fault::InvalidLength(len))
-    }
-
-    fn unknown_variant(_alloc: Global, _variant: &str, _expected: &Names) -> ScalarError {
-        ScalarError::Memory
-    }
-
-    fn unknown_field(_alloc: Global, _field: &str, _expected: &Names) -> ScalarError {
-        ScalarError::Memory
-    }
-
-    fn missing_field(_alloc: Global, _field: &str) -> ScalarError {
-        ScalarError::Memory
-    }
-
-    fn duplicate_field(_alloc: Global, _field: &str) -> ScalarError {
-        ScalarError::Memory
-    }
-
-    fn into_fault(self) -> Option<Fault> {
-        match self {
-            ScalarError::Refused(fault) => Some(fault),
-            ScalarError::Memory => None,
-        }
-    }
-}
-
-// A deserializer over one scalar, which it shows whatever is hoped for.
-#[derive(Drop)]
-struct OneScalar {
-    scalar: Scalar<String, Vec<u8>>,
-}
-
-impl Deserializer for OneScalar {
-    type Error = ScalarError;
-
-    type Text = String;
-
-    type Bytes = Vec<u8>;
-
-    ghost tracks = { false };
-
-    ghost source = { λ d. source (λ _. scalar (scalar_view string_bytes (λ b. b.items) d.scalar)) };
-
-    fn show(self, _hint: Hint<'_>) -> Result<Shown<OneScalar>, ScalarError> {
-        Ok(Shown::Scalar(self.scalar))
-    }
-}
 
 fn text(alloc: Global, text: &str) -> Result<Scalar<String, Vec<u8>>, AllocError> {
     Ok(Scalar::Text(String::from_str(alloc, text)?))
@@ -107,7 +22,25 @@ fn option(alloc: Global, inner: Shape) -> Result<Shape, AllocError> {
     Ok(Shape::Option(Box::new(alloc, inner)?))
 }
 
-fn data_text(alloc: Global, data: Data) -> Result<String, AllocError> {
+// What was read, as a text. Of an element that has parts it says how many.
+fn data_text(alloc: Global, data: &Data) -> Result<String, AllocError> {
+    match data {
+        Data::Seq(items) => row_text(alloc, items.as_slice()),
+        other => part_text(alloc, other),
+    }
+}
+
+fn row_text(alloc: Global, items: &[Data]) -> Result<String, AllocError> {
+    let mut out = String::from_str(alloc, "[")?;
+    for item in items {
+        out.push_str(part_text(alloc, item)?.as_str())?;
+        out.push(';')?;
+    }
+    out.push(']')?;
+    Ok(out)
+}
+
+fn part_text(alloc: Global, data: &Data) -> Result<String, AllocError> {
     match data {
         Data::Bool(b) => format!(in alloc; "bool {b}"),
         Data::Unsigned(n) => format!(in alloc; "unsigned {n}"),
@@ -118,29 +51,35 @@ fn data_text(alloc: Global, data: Data) -> Result<String, AllocError> {
         Data::Unit => String::from_str(alloc, "unit"),
         Data::Option(None) => String::from_str(alloc, "nothing"),
         Data::Option(Some(_)) => String::from_str(alloc, "something"),
+        Data::Seq(items) => format!(in alloc; "{} elements", items.len()),
     }
 }
 
-fn error_text(alloc: Global, error: ScalarError) -> Result<String, AllocError> {
+fn error_text(alloc: Global, error: PlainError) -> Result<String, AllocError> {
     match error.into_fault() {
         Some(Fault::InvalidType(kind)) => format!(in alloc; "InvalidType {}", kind.as_str()),
         Some(Fault::InvalidValue(kind)) => format!(in alloc; "InvalidValue {}", kind.as_str()),
+        Some(Fault::InvalidLength(len)) => format!(in alloc; "InvalidLength {len}"),
         Some(_) => String::from_str(alloc, "another"),
         None => Err(AllocError),
     }
 }
 
-// What is read from the scalar by the shape, as a text.
+// What is read by the shape, as a text.
+pub fn read_plain(alloc: Global, shape: &Shape, plain: Plain) -> Result<String, AllocError> {
+    let mut track = Track::new(alloc);
+    match ShapeSeed::new(shape).deserialize(alloc, plain, &mut track) {
+        Ok(data) => data_text(alloc, &data),
+        Err(error) => error_text(alloc, error),
+    }
+}
+
 fn read(
     alloc: Global,
     shape: &Shape,
     scalar: Scalar<String, Vec<u8>>,
 ) -> Result<String, AllocError> {
-    let mut track = Track::new(alloc);
-    match ShapeSeed::new(shape).deserialize(alloc, OneScalar { scalar }, &mut track) {
-        Ok(data) => data_text(alloc, data),
-        Err(error) => error_text(alloc, error),
-    }
+    read_plain(alloc, shape, Plain::Scalar(scalar))
 }
 
 #[test]
@@ -298,8 +237,15 @@ fn hint_name<'a>(hint: Hint<'a>) -> &'a str {
         Hint::Unit => "unit",
         Hint::UnitStruct(name) => name,
         Hint::Option => "option",
+        Hint::Seq => "seq",
+        Hint::Tuple(1) => "tuple of 1",
+        Hint::TupleStruct(name, 1) => name,
         _ => "another",
     }
+}
+
+fn one(alloc: Global) -> Result<Vec<Shape>, AllocError> {
+    Ok(vec![in alloc; Shape::U8]?)
 }
 
 #[test]
@@ -320,6 +266,9 @@ fn hopes_for_its_own_kind(rt: HostRuntime) -> Result<(), Fail> {
         (Shape::Unit, "unit"),
         (unit_struct(rt.alloc(), "Marker")?, "Marker"),
         (option(rt.alloc(), Shape::Unit)?, "option"),
+        (Shape::Seq(Box::new(rt.alloc(), Shape::Unit)?), "seq"),
+        (Shape::Tuple(one(rt.alloc())?), "tuple of 1"),
+        (Shape::Prefix(one(rt.alloc())?), "tuple of 1"),
     ];
     for (shape, want) in table {
         assert_eq!(rt; hint_name(hint(&shape)), want);
