@@ -1,13 +1,15 @@
 -- What is handed out, in its three ways of being said.
-use Rattle.std.proofs.Common.{◌≡◌, Result, Ok, Err}
+use Rattle.std.proofs.Common.{◌≡◌, List, Option, Result, Ok, Err}
 use Rattle.std.specs.Result.{IfOk, IfErr}
+use Rattle.data_core.specs.declared.fault.Fault.{Fault}
+use Rattle.data_core.specs.declared.path.Segment.{Segment}
 use Rattle.data_core.specs.Outcome.{Outcome, given, refused}
 use Rattle.shape.specs.Shape as spec
 use Rattle.shape.specs.View.{data_view}
 use Rattle.shape.specs.declared.data.Data.{Data}
 use Rattle.capture.specs.declared.reader.ReadError.{ReadError}
 use Rattle.capture.specs.declared.reader.ReadError.TheVariants.{Memory, Refused}
-use Rattle.capture.specs.Reads.{Hands, Answers, IsRefusal}
+use Rattle.capture.specs.Reads.{Hands, Answers, IsRefusal, IsRefusalOf, IsRefusalAny}
 
 pub hands_value : (r : Result Data ReadError) (o : Outcome spec.Data) → Hands r o → IfOk r (λ d. o ≡ given (data_view d))
 hands_value (Ok d) o h = h
@@ -26,3 +28,10 @@ hands_answer (Err (Refused path fault)) (given d) h = cc
 hands_answer (Err (Refused path fault)) (refused f p) h = (cc, cc)
 
 pub ruleset hands = (hands_value, hands_refusal, hands_answer)
+
+-- an error of the outcome's fault at its path
+pub refusal_of : (e : ReadError) (fault : Option Fault) (path : List Segment) (o : Outcome spec.Data) → IsRefusalAny fault path o → IsRefusalOf e fault path → IsRefusal e o
+refusal_of Memory fault path o answers h = tt
+refusal_of (Refused at f) fault path o answers h =
+    let called = rw h.1 at answers in
+    rw h.0 called

@@ -1,7 +1,7 @@
 pub mod Agreement
-pub mod Here
 pub mod SoleMember
-pub mod Numbers
+pub mod NamePairs
+pub mod Elements
 pub mod Documents
 pub mod Printing
 pub mod NoFloat

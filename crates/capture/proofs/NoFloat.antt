@@ -10,7 +10,7 @@ use Rattle.data_core.specs.declared.path.Segment.{Segment}
 use Rattle.data_core.specs.declared.path.Segment.TheVariants as segment
 use Rattle.data_core.specs.Outcome.{Outcome, given, refused}
 use Rattle.shape.specs.Shape as shape
-use Rattle.capture.specs.Line.{whole, each, printed, printed_fault, printed_segment, answer, line}
+use Rattle.capture.specs.Line.{whole, each, printed, printed_parts, printed_fault, printed_segment, answer, line}
 
 each_has_none : {A : Type 0} (print : A → Data) → ((a : A) → has_float (print a) ≡ false) → (rest : List A) → items_have_float (each print rest) ≡ false
 each_has_none print none [] = refl
@@ -20,16 +20,22 @@ integer_has_none : (z : ℤ) → has_float (json.number (of_integer z)) ≡ fals
 integer_has_none (pos n) = refl
 integer_has_none (negsuc n) = refl
 
-printed_has_none : (d : shape.Data) → has_float (printed d) ≡ false
-printed_has_none (shape.boolean_data b) = refl
-printed_has_none (shape.unsigned n) = refl
-printed_has_none (shape.signed z) = integer_has_none z
-printed_has_none (shape.character_data c) = refl
-printed_has_none (shape.text_data t) = refl
-printed_has_none (shape.bytes_data b) = each_has_none whole (λ n. refl) b
-printed_has_none shape.unit_data = refl
-printed_has_none shape.nothing = refl
-printed_has_none (shape.something d) = rw (printed_has_none d) refl
+mutual
+  printed_has_none : (d : shape.Data) → has_float (printed d) ≡ false
+  printed_has_none (shape.boolean_data b) = refl
+  printed_has_none (shape.unsigned n) = refl
+  printed_has_none (shape.signed z) = integer_has_none z
+  printed_has_none (shape.character_data c) = refl
+  printed_has_none (shape.text_data t) = refl
+  printed_has_none (shape.bytes_data b) = each_has_none whole (λ n. refl) b
+  printed_has_none shape.unit_data = refl
+  printed_has_none shape.nothing = refl
+  printed_has_none (shape.something d) = rw (printed_has_none d) refl
+  printed_has_none (shape.seq_data ds) = parts_have_none ds
+
+  parts_have_none : (ds : shape.Parts) → items_have_float (printed_parts ds) ≡ false
+  parts_have_none shape.no_parts = refl
+  parts_have_none (shape.part d ds) = rw (printed_has_none d, parts_have_none ds) refl
 
 fault_has_none : (f : Fault) → has_float (printed_fault f) ≡ false
 fault_has_none (fault.InvalidType k) = refl

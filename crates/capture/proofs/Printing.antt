@@ -11,11 +11,11 @@ abbrev pub before : List Value → Items → Items
 before [] rest = rest
 before (v ∷ vs) rest = item (view v) (before vs rest)
 
-before-push : (vs : List Value) (v : Value) (rest : Items) → before (vs ++ v ∷ []) rest ≡ before vs (item (view v) rest)
+pub before-push : (vs : List Value) (v : Value) (rest : Items) → before (vs ++ v ∷ []) rest ≡ before vs (item (view v) rest)
 before-push [] v rest = refl
 before-push (w ∷ vs) v rest = ap (item (view w)) (before-push vs v rest)
 
-before-end : (vs : List Value) → before vs no_items ≡ items_view vs
+pub before-end : (vs : List Value) → before vs no_items ≡ items_view vs
 before-end [] = refl
 before-end (v ∷ vs) = ap (item (view v)) (before-end vs)
 
@@ -27,3 +27,5 @@ each-step print rest vs i a v h e = rw (add-one, drop-cons rest i a h, before-pu
 -- the last one was printed
 pub each-end : {A : Type 0} (print : A → Data) (rest : List A) (vs : List Value) (i : ℕ) → length rest ≤ i → before vs (each print (drop i rest)) ≡ items_view vs
 each-end print rest vs i h = rw (drop_of_length-le rest h) (before-end vs)
+
+pub ruleset printing = (before-push, before-end)

@@ -10,7 +10,7 @@ use Rattle.capture.specs.Run.{outcome_of, IsReply, IsAnswer, Concludes, TookFron
 use Rattle.capture.specs.Answer.{answer_of}
 use Rattle.capture.specs.Status.{status_of, OnAnswer, OnSilence}
 use Rattle.capture.specs.declared.status.Status.{Status}
-use Rattle.capture.specs.declared.status.Status.TheVariants.{BadDocument, WriteFault}
+use Rattle.capture.specs.declared.status.Status.TheVariants.{Accepted, Refused, Usage, BadDocument, ReadFault, WriteFault, Memory, TooLong}
 
 -- a list of one word
 pub only_word : (words : List (List ℕ)) (word : List ℕ) → length words ≡ 1 → Some word ≡ slice_get words 0 → words ≡ word ∷ []
@@ -52,6 +52,17 @@ whole_stream old None bytes P e end p = rw e tt
 whole_stream old (Some rest) bytes P e end p =
     let same : bytes ++ rest ≡ bytes = rw end (append-nil bytes) in
     rw e (subst P (sym same) p)
+
+-- what an answer says implies more
+pub answers_more : (status : Status) (P Q : Type 0) → (P → Q) → OnAnswer status P → OnAnswer status Q
+answers_more Accepted P Q more p = more p
+answers_more Refused P Q more p = more p
+answers_more Usage P Q more p = tt
+answers_more BadDocument P Q more p = tt
+answers_more ReadFault P Q more p = tt
+answers_more WriteFault P Q more p = tt
+answers_more Memory P Q more p = tt
+answers_more TooLong P Q more p = tt
 
 -- a whole line that was taken answers the document
 pub line_answers : (found : Option Document) (status : Status) (text : List ℕ) (old new : Option (List ℕ)) → ◌≡◌ {A = Option (Status × List ℕ)} (Some (status, text)) (option_map answer_of found)

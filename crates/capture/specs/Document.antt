@@ -8,7 +8,9 @@ use Rattle.serde_json.specs.Read.{read}
 use Rattle.shape.specs.Shape.{Shape}
 use Rattle.shape.specs.View.{shape_view}
 use Rattle.capture.specs.Input.{Input, tree, input_view}
-use Rattle.capture.specs.Words.{shape_of, tree_of}
+use Rattle.capture.specs.Words.{shape_of, meant, tree_of}
+use Rattle.capture.specs.declared.version.Version.{Version}
+use Rattle.capture.specs.declared.version.Version.TheVariants.{First, Second}
 use Rattle.capture.specs.declared.document.Document as code
 
 pub record Document : Type 0 where
@@ -31,19 +33,23 @@ has_known (json.object ms) = all_known ms
 has_known d = false
 
 -- the version is 1 or 2, and 1 where none is given
-abbrev pub is_version : Option Data → Bool
-is_version None = true
-is_version (Some (json.number (json.unsigned n))) = (n == 1) || (n == 2)
-is_version (Some d) = false
+abbrev pub version_of : Option Data → Option Version
+version_of None = Some First
+version_of (Some (json.number (json.unsigned n))) = if n == 1 then Some First else (if n == 2 then Some Second else None)
+version_of (Some d) = None
 
 -- the input is a tree
 abbrev pub is_tree : Option Data → Bool
 is_tree (Some (json.string word)) = bytes_eq word (codes "tree")
 is_tree d = false
 
--- the members that are known by name, of the values that they may have
+-- the members that are known by name, and the kind of the input
 abbrev pub is_framed : Data → Bool
-is_framed d = has_known d && is_version (get (codes "v") d) && is_tree (get (codes "kind") d)
+is_framed d = has_known d && is_tree (get (codes "kind") d)
+
+-- the shape that is meant in a document of this version
+abbrev pub shape_in : Version → Data → Option Shape
+shape_in v d = option_map (meant v) (option_and_then (shape_of v) (get (codes "shape") d))
 
 -- a shape and a tree, where both are there
 abbrev pub both : Option Shape → Option Input → Option Document
@@ -52,7 +58,7 @@ both s i = option_and_then (λ shape. option_map (λ input. record { shape = sha
 abbrev pub document_in : Data → Option Document
 document_in d =
     if is_framed d
-    then both (option_and_then shape_of (get (codes "shape") d)) (option_and_then (λ t. option_map tree (tree_of t)) (get (codes "input") d))
+    then option_and_then (λ v. both (shape_in v d) (option_and_then (λ t. option_map tree (tree_of t)) (get (codes "input") d))) (version_of (get (codes "v") d))
     else None
 
 -- the document that the bytes are, if they are one

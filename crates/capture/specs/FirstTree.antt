@@ -1,16 +1,17 @@
 -- The first outcome of a shape over a tree, with no word of sources: its value, or the first fault
 -- with the path to it.
-use Rattle.std.specs.Prelude.{ℕ, ℤ, ◌^◌, ◌-◌, [], pos, negsuc, nat_le, if◌then◌else◌, Option, Some, None, encode_utf8}
+use Rattle.std.specs.Prelude.{ℕ, ℤ, ◌^◌, ◌+◌, ◌-◌, Bool, true, false, List, [], ◌∷◌, pos, negsuc, nat_le, if◌then◌else◌, Option, Some, None, encode_utf8}
 use Rattle.std.specs.Str.{chars, is_utf8}
-use Rattle.data_core.specs.declared.fault.Fault.TheVariants.{InvalidType, InvalidValue}
+use Rattle.data_core.specs.declared.fault.Fault.TheVariants.{InvalidType, InvalidValue, InvalidLength}
 use Rattle.data_core.specs.declared.fault.Kind.{Kind}
 use Rattle.data_core.specs.declared.fault.Kind.TheVariants as kind
+use Rattle.data_core.specs.declared.path.Segment.TheVariants.{Seq}
 use Rattle.data_core.specs.Only.{only}
-use Rattle.data_core.specs.Node.{Node}
+use Rattle.data_core.specs.Node.{Node, Nodes, no_nodes, node}
 use Rattle.data_core.specs.Node as node
-use Rattle.data_core.specs.Outcome.{Outcome, given, refused, and_then}
-use Rattle.shape.specs.Shape.{Shape, boolean, u8, u16, u32, u64, i8, i16, i32, i64, character, text, bytes, unit, unit_struct, option, Data, boolean_data, unsigned, signed, character_data, text_data, bytes_data, unit_data, nothing, something}
-use Rattle.shape.specs.First.{within, character_from}
+use Rattle.data_core.specs.Outcome.{Outcome, given, refused, under, and_then}
+use Rattle.shape.specs.Shape.{Shape, boolean, u8, u16, u32, u64, i8, i16, i32, i64, character, text, bytes, unit, unit_struct, option, seq, tuple, tuple_struct, prefix, prefix_struct, Shapes, no_shapes, shape, Data, boolean_data, unsigned, signed, character_data, text_data, bytes_data, unit_data, nothing, something}
+use Rattle.shape.specs.First.{within, character_from, elements_data}
 
 -- the kind that a node has of itself
 abbrev pub own : Node → Kind
@@ -28,6 +29,7 @@ own (node.string t) = kind.Str
 own node.unit = kind.Unit
 own node.none = kind.Option
 own (node.some t) = kind.Option
+own (node.seq ns) = kind.Seq
 own (node.bytes b) = kind.Bytes
 
 -- the kind that a reader sees: a character's is that of its text
@@ -64,26 +66,66 @@ abbrev pub signed_up_to : ℕ → Node → Option ℤ → Outcome Data
 signed_up_to greatest t (Some z) = if within greatest z then given (signed z) else out_of_range t
 signed_up_to greatest t None = refused_as_itself t
 
-abbrev pub first_tree : Shape → Node → Outcome Data
-first_tree boolean (node.boolean b) = given (boolean_data b)
-first_tree u8 t = unsigned_up_to (2 ^ 8 - 1) t (integer_in t)
-first_tree u16 t = unsigned_up_to (2 ^ 16 - 1) t (integer_in t)
-first_tree u32 t = unsigned_up_to (2 ^ 32 - 1) t (integer_in t)
-first_tree u64 t = unsigned_up_to (2 ^ 64 - 1) t (integer_in t)
-first_tree i8 t = signed_up_to (2 ^ 7 - 1) t (integer_in t)
-first_tree i16 t = signed_up_to (2 ^ 15 - 1) t (integer_in t)
-first_tree i32 t = signed_up_to (2 ^ 31 - 1) t (integer_in t)
-first_tree i64 t = signed_up_to (2 ^ 63 - 1) t (integer_in t)
-first_tree character (node.character c) = given (character_data c)
-first_tree character (node.string t) = character_from (only (chars t))
-first_tree text (node.string t) = given (text_data t)
-first_tree text (node.character c) = given (text_data (encode_utf8 c))
-first_tree text (node.bytes b) = if is_utf8 b then given (text_data b) else out_of_range (node.bytes b)
-first_tree bytes (node.bytes b) = given (bytes_data b)
-first_tree unit node.unit = given unit_data
-first_tree (unit_struct name) node.unit = given unit_data
-first_tree (option a) node.none = given nothing
-first_tree (option a) node.unit = given nothing
-first_tree (option a) (node.some t) = and_then (first_tree a t) (λ d. given (something d))
-first_tree (option a) t = and_then (first_tree a t) (λ d. given (something d))
-first_tree s t = refused_as_itself t
+-- as an option: nothing and a unit are nothing, and any other node is something
+abbrev pub in_option : (Node → Outcome Data) → Node → Outcome Data
+in_option read node.none = given nothing
+in_option read node.unit = given nothing
+in_option read (node.some t) = and_then (read t) (λ d. given (something d))
+in_option read t = and_then (read t) (λ d. given (something d))
+
+-- each element in order, from a place on, up to the first fault
+abbrev pub each_tree : (Node → Outcome Data) → ℕ → Nodes → Outcome (List Data)
+each_tree read i no_nodes = given []
+each_tree read i (node t ts) =
+    and_then (under (Seq i) (read t)) (λ d. and_then (each_tree read (i + 1) ts) (λ ds. given (d ∷ ds)))
+
+abbrev pub number : Nodes → ℕ
+number no_nodes = 0
+number (node t ts) = number ts + 1
+
+-- elements that are left after a row
+abbrev pub left_over : Bool → ℕ → Nodes → Outcome (List Data)
+left_over true i (node t ts) = refused (InvalidLength (i + number (node t ts))) []
+left_over exact i ts = given []
+
+-- an element for each reader in order, from a place on; an exact row has no more of them
+abbrev pub row_tree : Bool → List (Node → Outcome Data) → ℕ → Nodes → Outcome (List Data)
+row_tree exact [] i ts = left_over exact i ts
+row_tree exact (read ∷ reads) i no_nodes = refused (InvalidLength i) []
+row_tree exact (read ∷ reads) i (node t ts) =
+    and_then (under (Seq i) (read t)) (λ d. and_then (row_tree exact reads (i + 1) ts) (λ ds. given (d ∷ ds)))
+
+abbrev pub in_seq : (Nodes → Outcome (List Data)) → Node → Outcome Data
+in_seq read (node.seq ts) = elements_data (read ts)
+in_seq read t = refused_as_itself t
+
+abbrev mutual
+  pub first_tree : Shape → Node → Outcome Data
+  first_tree boolean (node.boolean b) = given (boolean_data b)
+  first_tree u8 t = unsigned_up_to (2 ^ 8 - 1) t (integer_in t)
+  first_tree u16 t = unsigned_up_to (2 ^ 16 - 1) t (integer_in t)
+  first_tree u32 t = unsigned_up_to (2 ^ 32 - 1) t (integer_in t)
+  first_tree u64 t = unsigned_up_to (2 ^ 64 - 1) t (integer_in t)
+  first_tree i8 t = signed_up_to (2 ^ 7 - 1) t (integer_in t)
+  first_tree i16 t = signed_up_to (2 ^ 15 - 1) t (integer_in t)
+  first_tree i32 t = signed_up_to (2 ^ 31 - 1) t (integer_in t)
+  first_tree i64 t = signed_up_to (2 ^ 63 - 1) t (integer_in t)
+  first_tree character (node.character c) = given (character_data c)
+  first_tree character (node.string t) = character_from (only (chars t))
+  first_tree text (node.string t) = given (text_data t)
+  first_tree text (node.character c) = given (text_data (encode_utf8 c))
+  first_tree text (node.bytes b) = if is_utf8 b then given (text_data b) else out_of_range (node.bytes b)
+  first_tree bytes (node.bytes b) = given (bytes_data b)
+  first_tree unit node.unit = given unit_data
+  first_tree (unit_struct name) node.unit = given unit_data
+  first_tree (option a) t = in_option (first_tree a) t
+  first_tree (seq a) t = in_seq (each_tree (first_tree a) 0) t
+  first_tree (tuple row) t = in_seq (row_tree true (tree_readers row) 0) t
+  first_tree (tuple_struct name row) t = in_seq (row_tree true (tree_readers row) 0) t
+  first_tree (prefix row) t = in_seq (row_tree false (tree_readers row) 0) t
+  first_tree (prefix_struct name row) t = in_seq (row_tree false (tree_readers row) 0) t
+  first_tree s t = refused_as_itself t
+
+  pub tree_readers : Shapes → List (Node → Outcome Data)
+  tree_readers no_shapes = []
+  tree_readers (shape a rest) = first_tree a ∷ tree_readers rest

@@ -12,7 +12,7 @@ use Rattle.data_core.specs.KindName.{kind_name}
 use Rattle.data_core.specs.WordText.{word_text}
 use Rattle.data_core.specs.PathText.{path_text}
 use Rattle.data_core.specs.Outcome.{Outcome, given, refused}
-use Rattle.shape.specs.Shape.{Data, boolean_data, unsigned, signed, character_data, text_data, bytes_data, unit_data, nothing, something}
+use Rattle.shape.specs.Shape.{Data, boolean_data, unsigned, signed, character_data, text_data, bytes_data, unit_data, nothing, something, seq_data, Parts, no_parts, part}
 
 abbrev pub whole : ℕ → json.Data
 whole n = json.number (json.unsigned n)
@@ -22,17 +22,23 @@ abbrev pub each : {A : Type 0} → (A → json.Data) → List A → Items
 each print [] = no_items
 each print (a ∷ rest) = item (print a) (each print rest)
 
--- how a value is printed
-abbrev pub printed : Data → json.Data
-printed (boolean_data b) = json.boolean b
-printed (unsigned n) = whole n
-printed (signed z) = json.number (of_integer z)
-printed (character_data c) = json.string (encode_utf8 c)
-printed (text_data t) = json.string t
-printed (bytes_data b) = json.array (each whole b)
-printed unit_data = json.null
-printed nothing = json.array no_items
-printed (something d) = json.array (item (printed d) no_items)
+abbrev mutual
+  -- how a value is printed
+  pub printed : Data → json.Data
+  printed (boolean_data b) = json.boolean b
+  printed (unsigned n) = whole n
+  printed (signed z) = json.number (of_integer z)
+  printed (character_data c) = json.string (encode_utf8 c)
+  printed (text_data t) = json.string t
+  printed (bytes_data b) = json.array (each whole b)
+  printed unit_data = json.null
+  printed nothing = json.array no_items
+  printed (something d) = json.array (item (printed d) no_items)
+  printed (seq_data ds) = json.array (printed_parts ds)
+
+  pub printed_parts : Parts → Items
+  printed_parts no_parts = no_items
+  printed_parts (part d ds) = item (printed d) (printed_parts ds)
 
 -- a name alone, and a name with what it is about
 abbrev pub alone : List ℕ → json.Data

@@ -4,16 +4,28 @@ use Rattle.std.specs.Str.{bytes_eq, chars}
 use Rattle.serde_json.specs.Data as json
 use Rattle.serde_json.specs.Data.{Data, Items, no_items, item, Members, no_members, member}
 use Rattle.data_core.specs.Only.{only}
-use Rattle.data_core.specs.Node.{Node}
+use Rattle.data_core.specs.Node.{Node, nodes_of}
 use Rattle.data_core.specs.Node as node
-use Rattle.shape.specs.Shape.{Shape}
+use Rattle.shape.specs.Shape.{Shape, shapes_of}
+use Rattle.shape.specs.Upgraded.{upgraded}
 use Rattle.shape.specs.First.{within}
 use Rattle.shape.specs.Shape as shape
+use Rattle.capture.specs.declared.version.Version.{Version}
+use Rattle.capture.specs.declared.version.Version.TheVariants as version
 
 -- the name and the value of an object's only member
 abbrev pub sole : Members → Option (List ℕ × Data)
 sole (member name d no_members) = Some (name, d)
 sole ms = None
+
+abbrev pub name_in : Data → Option (List ℕ)
+name_in (json.string name) = Some name
+name_in d = None
+
+-- a name and what it names, in an array of the two
+abbrev pub named_in : Data → Option (List ℕ × Data)
+named_in (json.array (item n (item d no_items))) = option_map (λ name. (name, d)) (name_in n)
+named_in d = None
 
 -- a shape that has no parts
 abbrev pub word_shape : List ℕ → Option Shape
@@ -34,19 +46,50 @@ word_shape word =
 
 -- the name of a unit struct
 abbrev pub unit_struct_in : Data → Option Shape
-unit_struct_in (json.string name) = Some (shape.unit_struct name)
-unit_struct_in d = None
+unit_struct_in d = option_map shape.unit_struct (name_in d)
 
--- a shape under a tag, by what stands there and the shape that it is
-abbrev pub tagged_shape : List ℕ → Data → Option Shape → Option Shape
-tagged_shape tag d inside =
+-- a word that documents of the second version alone may have
+abbrev pub since_second : Version → Option Shape → Option Shape
+since_second version.First found = None
+since_second version.Second found = found
+
+-- a shape under a tag, by what stands there, and the shape, the row and the named row that it is
+abbrev pub tagged_shape : Version → List ℕ → Data → Option Shape → Option (List Shape) → Option (List ℕ × List Shape) → Option Shape
+tagged_shape v tag d inside row named =
     if bytes_eq tag (codes "unit_struct") then unit_struct_in d else (
-    if bytes_eq tag (codes "option") then option_map shape.option inside else None)
+    if bytes_eq tag (codes "option") then option_map shape.option inside else (
+    if bytes_eq tag (codes "seq") then option_map shape.seq inside else (
+    if bytes_eq tag (codes "tuple") then option_map (λ a. shape.tuple (shapes_of a)) row else (
+    if bytes_eq tag (codes "tuple_struct") then option_map (λ a. shape.tuple_struct a.0 (shapes_of a.1)) named else (
+    if bytes_eq tag (codes "prefix") then since_second v (option_map (λ a. shape.prefix (shapes_of a)) row) else (
+    if bytes_eq tag (codes "prefix_struct") then since_second v (option_map (λ a. shape.prefix_struct a.0 (shapes_of a.1)) named) else None))))))
 
-abbrev pub shape_of : Data → Option Shape
-shape_of (json.string word) = word_shape word
-shape_of (json.object (member tag d no_members)) = tagged_shape tag d (shape_of d)
-shape_of d = None
+abbrev mutual
+  -- the shape that is named in a document of this version
+  pub shape_of : Version → Data → Option Shape
+  shape_of v (json.string word) = word_shape word
+  shape_of v (json.object (member tag d no_members)) = tagged_shape v tag d (shape_of v d) (row_in v d) (named_row_in v d)
+  shape_of v d = None
+
+  -- an array of shapes
+  pub row_in : Version → Data → Option (List Shape)
+  row_in v (json.array ds) = row_of v ds
+  row_in v d = None
+
+  pub row_of : Version → Items → Option (List Shape)
+  row_of v no_items = Some []
+  row_of v (item d ds) = option_and_then (λ a. option_map (λ row. a ∷ row) (row_of v ds)) (shape_of v d)
+
+  -- a name and an array of shapes, in an array of the two
+  pub named_row_in : Version → Data → Option (List ℕ × List Shape)
+  named_row_in v (json.array (item n (item d no_items))) =
+      option_and_then (λ name. option_map (λ row. (name, row)) (row_in v d)) (name_in n)
+  named_row_in v d = None
+
+-- the shape that is meant: in a document of the first version the surplus of tuples is passed over
+abbrev pub meant : Version → Shape → Shape
+meant version.First a = upgraded a
+meant version.Second a = a
 
 -- a number up to the greatest, which serde_json does not hold as a float
 abbrev pub unsigned_in : ℕ → Data → Option ℕ
@@ -96,9 +139,11 @@ scalar_under tag d =
     if bytes_eq tag (codes "String") then string_in d else (
     if bytes_eq tag (codes "Bytes") then bytes_in d else None)))))))))))
 
--- a tree under a tag, by what stands there and the tree that it is
-abbrev pub tagged_tree : List ℕ → Data → Option Node → Option Node
-tagged_tree tag d inside = if bytes_eq tag (codes "Some") then option_map node.some inside else scalar_under tag d
+-- a tree under a tag, by what stands there, and the tree and the trees that it is
+abbrev pub tagged_tree : List ℕ → Data → Option Node → Option (List Node) → Option Node
+tagged_tree tag d inside elements =
+    if bytes_eq tag (codes "Some") then option_map node.some inside else (
+    if bytes_eq tag (codes "Seq") then option_map (λ ts. node.seq (nodes_of ts)) elements else scalar_under tag d)
 
 -- a tree that has no tag
 abbrev pub word_tree : List ℕ → Option Node
@@ -106,7 +151,17 @@ word_tree word =
     if bytes_eq word (codes "Unit") then Some node.unit else (
     if bytes_eq word (codes "None") then Some node.none else None)
 
-abbrev pub tree_of : Data → Option Node
-tree_of (json.string word) = word_tree word
-tree_of (json.object (member tag d no_members)) = tagged_tree tag d (tree_of d)
-tree_of d = None
+abbrev mutual
+  pub tree_of : Data → Option Node
+  tree_of (json.string word) = word_tree word
+  tree_of (json.object (member tag d no_members)) = tagged_tree tag d (tree_of d) (trees_in d)
+  tree_of d = None
+
+  -- an array of trees
+  pub trees_in : Data → Option (List Node)
+  trees_in (json.array ds) = trees_of ds
+  trees_in d = None
+
+  pub trees_of : Items → Option (List Node)
+  trees_of no_items = Some []
+  trees_of (item d ds) = option_and_then (λ t. option_map (λ ts. t ∷ ts) (trees_of ds)) (tree_of d)

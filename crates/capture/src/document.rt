@@ -2,14 +2,16 @@
 ghost use Rattle.std.specs.Prelude.{◌≡◌, IfOk, option_map, option_and_then, codes, string_bytes};
 ghost use Rattle.serde_json.specs.Find.{get, get_member};
 ghost use Rattle.serde_json.specs.View.{view, members_view};
+ghost use Rattle.shape.specs.View.{shape_view};
 ghost use Rattle.capture.specs.Input.{tree, input_view};
-ghost use Rattle.capture.specs.Words.{tree_of};
-ghost use Rattle.capture.specs.Document.{document_view, document_in, document, is_known as is_known_name, all_known, has_known, is_version as is_version_held, is_tree as is_tree_held, is_framed as has_frame};
+ghost use Rattle.capture.specs.Words.{shape_of, meant, tree_of};
+ghost use Rattle.capture.specs.Document.{document_view, document_in, document, is_known as is_known_name, all_known, has_known, version_of as version_held, is_tree as is_tree_held, is_framed as has_frame};
 
 use crate::input::Input;
+use crate::version::Version;
 use crate::words;
 use serde_json::{Map, Value as Json};
-use shape::Shape;
+use shape::{Shape, upgrade};
 use std::alloc::{AllocError, Global};
 
 /// A shape and what is read under it.
@@ -41,10 +43,10 @@ fn parse_json(alloc: Global, json: Json) -> Result<Option<Document>, AllocError>
     if !is_framed(&json) {
         return Ok(None);
     }
-    let Some(shape) = json.get("shape") else {
+    let Some(version) = version(json.get("v")) else {
         return Ok(None);
     };
-    let Some(shape) = words::shape(alloc, shape)? else {
+    let Some(shape) = meant_shape(alloc, version, json.get("shape"))? else {
         return Ok(None);
     };
     let Some(input) = input(alloc, json)? else {
@@ -53,11 +55,32 @@ fn parse_json(alloc: Global, json: Json) -> Result<Option<Document>, AllocError>
     Ok(Some(Document { shape, input }))
 }
 
-// The members that are known by name, of the values that they may have.
+// The shape that is meant in a document of this version.
+fn meant_shape(
+    alloc: Global,
+    version: Version,
+    json: Option<&Json>,
+) -> Result<Option<Shape>, AllocError>
+    ensures { IfOk result (λ found. option_map shape_view found
+        ≡ option_map (meant version) (option_and_then (shape_of version) (option_map (λ v. view v.now) json.entry))) }
+{
+    let Some(json) = json else {
+        return Ok(None);
+    };
+    let Some(shape) = words::shape(alloc, version, json)? else {
+        return Ok(None);
+    };
+    match version {
+        Version::First => Ok(Some(upgrade(shape))),
+        Version::Second => Ok(Some(shape)),
+    }
+}
+
+// The members that are known by name, and the kind of the input.
 fn is_framed(json: &Json) -> bool
     ensures { result ≡ has_frame (view json.now) }
 {
-    has_known_members(json) && is_version(json.get("v")) && is_tree(json.get("kind"))
+    has_known_members(json) && is_tree(json.get("kind"))
 }
 
 fn has_known_members(json: &Json) -> bool
@@ -86,13 +109,18 @@ fn is_known(name: &str) -> bool
     matches!(name, "shape" | "kind" | "input" | "v")
 }
 
-fn is_version(json: Option<&Json>) -> bool
-    ensures { result ≡ is_version_held (option_map (λ v. view v.now) json.entry) }
+// The version that is given, and the first where none is.
+fn version(json: Option<&Json>) -> Option<Version>
+    ensures { result ≡ version_held (option_map (λ v. view v.now) json.entry) }
 {
     match json {
-        None => true,
-        Some(Json::Number(number)) => matches!(number.as_u64(), Some(1 | 2)),
-        Some(_) => false,
+        None => Some(Version::First),
+        Some(Json::Number(number)) => match number.as_u64() {
+            Some(1) => Some(Version::First),
+            Some(2) => Some(Version::Second),
+            _ => None,
+        },
+        Some(_) => None,
     }
 }
 

@@ -7,14 +7,16 @@ mod document;
 mod input;
 mod line;
 mod members;
+mod named;
 mod reader;
 mod status;
 mod stream;
 #[cfg(test)]
 mod tests;
+mod version;
 mod words;
 
 pub use command::run;
 pub use input::Input;
-pub use reader::{ReadError, read};
+pub use reader::{ReadError, read, read_any};
 pub use status::Status;

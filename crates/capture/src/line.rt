@@ -1,10 +1,11 @@
 //! The line that an answer is written as.
-ghost use Rattle.std.specs.Prelude.{◌≡◌, IfOk, encode_utf8};
+ghost use Rattle.std.specs.Prelude.{◌≡◌, map, IfOk, encode_utf8};
 ghost use Rattle.serde_json.specs.Data.{array, string};
 ghost use Rattle.serde_json.specs.View.{view};
 ghost use Rattle.data_core.specs.Outcome.{given, refused};
+ghost use Rattle.shape.specs.Shape.{parts_of};
 ghost use Rattle.shape.specs.View.{data_view};
-ghost use Rattle.capture.specs.Line.{whole, each, printed, printed_fault, alone as alone_of, about as about_of, printed_segment, answer};
+ghost use Rattle.capture.specs.Line.{whole, each, printed, printed_parts, printed_fault, alone as alone_of, about as about_of, printed_segment, answer};
 
 use data_core::{Fault, Path, Segment};
 use serde_json::{Value as Json, json};
@@ -12,6 +13,7 @@ use shape::Data;
 use std::alloc::{AllocError, Global};
 
 /// How a value is printed.
+#[cycle(print)]
 fn print(alloc: Global, value: Data) -> Result<Json, AllocError>
     ensures { IfOk result (λ json. view json ≡ printed (data_view value)) }
 {
@@ -25,10 +27,23 @@ fn print(alloc: Global, value: Data) -> Result<Json, AllocError>
         Data::Unit => Ok(Json::Null),
         Data::Option(None) => json!(in alloc; []),
         Data::Option(Some(inside)) => {
-            let inside = print(alloc, Box::into_inner(inside))?;
+            let inside = print(alloc, inside.into_inner())?;
             json!(in alloc; [inside])
         }
+        Data::Seq(items) => print_items(alloc, items.into_vec()),
     }
+}
+
+#[cycle(print)]
+#[tactic(auto, using(crate::proofs::Printing::printing))]
+fn print_items(alloc: Global, items: Vec<Data>) -> Result<Json, AllocError>
+    ensures { IfOk result (λ json. view json ≡ array (printed_parts (parts_of (map data_view items.items)))) }
+{
+    let mut printed = Vec::with_capacity(alloc, items.len())?;
+    for item in items {
+        printed.push(print(alloc, item)?)?;
+    }
+    Ok(Json::Array(printed))
 }
 
 fn print_char(alloc: Global, c: char) -> Result<Json, AllocError>

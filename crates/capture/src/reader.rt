@@ -1,6 +1,7 @@
 //! Reading of an input under a shape.
 ghost use Rattle.std.specs.Prelude.{◌≡◌, IfOk, IfErr};
-ghost use Rattle.data_core.specs.Outcome.{given, Answers as AnswersHere};
+ghost use Rattle.data_core.specs.Outcome.{given};
+ghost use Rattle.path_core.specs.Error.{path_of, original_of};
 ghost use Rattle.shape.specs.First.{first as first_source};
 ghost use Rattle.shape.specs.View.{shape_view, data_view};
 ghost use Rattle.serde_value.specs.View.{node_view};
@@ -8,10 +9,12 @@ ghost use Rattle.serde_value.specs.ErrorView.{fault_of};
 ghost use Rattle.capture.specs.Input.{input_view};
 ghost use Rattle.capture.specs.First.{first};
 ghost use Rattle.capture.specs.FirstTree.{first_tree};
-ghost use Rattle.capture.specs.Reads.{Hands, Answers, IsRefusal, IsRefusalHere};
+ghost use Rattle.capture.specs.Reads.{Hands, HandsAny, Answers, IsRefusal, IsRefusalOf};
 
 use crate::input::Input;
-use data_core::{DeError, DeserializeSeed, Deserializer, Fault, Path, Track};
+use data_core::{DeError, Deserializer, Fault, Path};
+use path_core::Error;
+use serde_path_to_error::deserialize_seed;
 use serde_value::{DeserializerError, Value, ValueDeserializer};
 use shape::{Data, Shape, ShapeSeed};
 use std::alloc::Global;
@@ -42,29 +45,31 @@ fn read_tree(alloc: Global, shape: &Shape, value: Value) -> Result<Data, ReadErr
     ensures { Hands result (first_tree (shape_view shape.now) (node_view value)) }
 {
     let d: ValueDeserializer<DeserializerError> = ValueDeserializer::new(alloc, value);
-    match read_here(alloc, shape, d) {
+    match read_any(alloc, shape, d) {
         Ok(data) => Ok(data),
-        Err(error) => Err(refusal(alloc, error)),
+        Err(error) => Err(refusal(error)),
     }
 }
 
-// The value of the shape, or the error that refuses it where it stands.
-fn read_here<D: Deserializer>(alloc: Global, shape: &Shape, d: D) -> Result<Data, D::Error>
-    ensures { AnswersHere D.Error.fault data_view result (first_source (shape_view shape.now) (D.source d)) }
+/// Reads under a shape from any deserializer. An error comes with the path of the refused part. It
+/// is this project's own.
+pub fn read_any<D: Deserializer>(
+    alloc: Global,
+    shape: &Shape,
+    d: D,
+) -> Result<Data, Error<D::Error>>
+    ensures { HandsAny D.Error.fault result (first_source (shape_view shape.now) (D.source d)) }
 {
-    let mut track = Track::new(alloc);
-    ShapeSeed::new(shape).deserialize(alloc, d, &mut track)
+    deserialize_seed(alloc, d, ShapeSeed::new(shape))
 }
 
-// The error at the empty path.
-fn refusal(alloc: Global, error: DeserializerError) -> ReadError
-    ensures { IsRefusalHere result (fault_of error) }
+// The fault and the path of an error.
+fn refusal(error: Error<DeserializerError>) -> ReadError
+    ensures { IsRefusalOf result (fault_of (original_of error)) (path_of error) }
 {
-    match error.into_fault() {
-        Some(fault) => ReadError::Refused {
-            path: Path::new(alloc),
-            fault,
-        },
+    let (path, original) = error.into_parts();
+    match original.into_fault() {
+        Some(fault) => ReadError::Refused { path, fault },
         None => ReadError::Memory,
     }
 }

@@ -127,6 +127,76 @@ fn answers_options(rt: HostRuntime) -> Result<(), Fail> {
 }
 
 #[test]
+fn answers_sequences(rt: HostRuntime) -> Result<(), Fail> {
+    let numbers = "{\"Seq\":[{\"U8\":1},{\"U8\":2},{\"Bool\":true}]}";
+    let table = [
+        (
+            "{\"seq\":\"u8\"}",
+            "",
+            1,
+            "{\"at\":\"[2]\",\"fault\":[\"InvalidType\",\"Bool\"],\"path\":[[\"seq\",2]]}\n",
+        ),
+        ("{\"tuple\":[\"u8\",\"u8\"]}", "", 0, "{\"value\":[1,2]}\n"),
+        (
+            "{\"tuple\":[\"u8\",\"u8\"]}",
+            ",\"v\":1",
+            0,
+            "{\"value\":[1,2]}\n",
+        ),
+        (
+            "{\"tuple\":[\"u8\",\"u8\"]}",
+            ",\"v\":2",
+            1,
+            "{\"at\":\".\",\"fault\":[\"InvalidLength\",3],\"path\":[]}\n",
+        ),
+        (
+            "{\"tuple_struct\":[\"T\",[\"u8\",\"u8\",\"bool\"]]}",
+            ",\"v\":2",
+            0,
+            "{\"value\":[1,2,true]}\n",
+        ),
+        (
+            "{\"tuple\":[\"u8\",\"u8\",\"bool\",\"u8\"]}",
+            ",\"v\":2",
+            1,
+            "{\"at\":\".\",\"fault\":[\"InvalidLength\",3],\"path\":[]}\n",
+        ),
+        ("{\"prefix\":[\"u8\"]}", ",\"v\":2", 0, "{\"value\":[1]}\n"),
+        (
+            "{\"prefix_struct\":[\"P\",[]]}",
+            ",\"v\":2",
+            0,
+            "{\"value\":[]}\n",
+        ),
+        (
+            "{\"option\":{\"tuple\":[\"bool\"]}}",
+            "",
+            1,
+            "{\"at\":\"[0]\",\"fault\":[\"InvalidType\",\"Unsigned\"],\"path\":[[\"seq\",0]]}\n",
+        ),
+        (
+            "\"u8\"",
+            "",
+            1,
+            "{\"at\":\".\",\"fault\":[\"InvalidType\",\"Seq\"],\"path\":[]}\n",
+        ),
+        ("{\"prefix\":[\"u8\"]}", "", 3, ""),
+        ("{\"prefix_struct\":[\"P\",[]]}", ",\"v\":1", 3, ""),
+        ("{\"tuple_struct\":[[],\"T\"]}", "", 3, ""),
+        ("{\"tuple\":\"u8\"}", "", 3, ""),
+    ];
+    for (shape, version, status, line) in table {
+        let document = format!(in rt.alloc();
+            "{{\"shape\":{shape},\"kind\":\"tree\",\"input\":{numbers}{version}}}"
+        )?;
+        let (code, out) = ended(rt.alloc(), &["read"], document.as_bytes(), 7)?;
+        assert_eq!(rt; code, status, "{shape}");
+        assert_eq!(rt; out.bytes(), line.as_bytes(), "{shape}");
+    }
+    Ok(())
+}
+
+#[test]
 fn answers_deep_options(rt: HostRuntime) -> Result<(), Fail> {
     let shape = nested(rt.alloc(), "{\"option\":", "\"u8\"", 60)?;
     let tree = nested(rt.alloc(), "{\"Some\":", "{\"Bool\":true}", 60)?;

@@ -1,28 +1,31 @@
 //! The words of a document that name shapes and trees.
-ghost use Rattle.std.specs.Prelude.{◌≡◌, ◌≤◌, ◌<◌, ◌^◌, ◌-◌, IfOk, IfSome, option_map};
+ghost use Rattle.std.specs.Prelude.{◌≡◌, ◌≤◌, ◌<◌, ◌^◌, ◌-◌, map, IfOk, IfSome, option_map};
 ghost use Rattle.serde_json.specs.View.{view, items_view, members_view};
 ghost use Rattle.data_core.specs.Node as node;
+ghost use Rattle.data_core.specs.Node.{nodes_of};
 ghost use Rattle.serde_value.specs.View.{node_view};
 ghost use Rattle.shape.specs.View.{shape_view};
-ghost use Rattle.capture.specs.Words.{word_shape as shape_named, tagged_shape as shape_under, unit_struct_in, shape_of, unsigned_in as unsigned_held, signed_in as signed_held, boolean_in, character_in, string_in, bytes_from, bytes_in, word_tree as tree_named, tagged_tree as tree_under, scalar_under, tree_of};
+ghost use Rattle.capture.specs.Words.{word_shape as shape_named, tagged_shape as shape_under, unit_struct_in, shape_of, row_in, row_of, named_row_in, unsigned_in as unsigned_held, signed_in as signed_held, boolean_in, character_in, string_in, bytes_from, bytes_in, word_tree as tree_named, tagged_tree as tree_under, scalar_under, tree_of, trees_in, trees_of};
 
 use crate::members::{sole_member, take_sole_member};
+use crate::named::{name, named};
+use crate::version::Version;
 use data_core::{Text, only_char};
 use serde_json::Value as Json;
-use serde_value::{Held, Value};
+use serde_value::{Held, Items, Value};
 use shape::Shape;
 use std::alloc::{AllocError, Global};
 
-/// The shape that a JSON value is the word of.
+/// The shape that a JSON value is the word of, in a document of this version.
 #[cycle(shape)]
 #[tactic(auto, using(crate::proofs::SoleMember::soles))]
-pub fn shape(alloc: Global, json: &Json) -> Result<Option<Shape>, AllocError>
-    ensures { IfOk result (λ found. option_map shape_view found ≡ shape_of (view json.now)) }
+pub fn shape(alloc: Global, version: Version, json: &Json) -> Result<Option<Shape>, AllocError>
+    ensures { IfOk result (λ found. option_map shape_view found ≡ shape_of version (view json.now)) }
 {
     match json {
         Json::String(word) => Ok(word_shape(word.as_str())),
         Json::Object(members) => match sole_member(members) {
-            Some((tag, inside)) => tagged_shape(alloc, tag.as_str(), inside),
+            Some((tag, inside)) => tagged_shape(alloc, version, tag.as_str(), inside),
             None => Ok(None),
         },
         _ => Ok(None),
@@ -51,26 +54,114 @@ fn word_shape(word: &str) -> Option<Shape>
 }
 
 #[cycle(shape)]
-fn tagged_shape(alloc: Global, tag: &str, inside: &Json) -> Result<Option<Shape>, AllocError>
+#[tactic(auto, using(shape::proofs::Views::views_of_rows))]
+fn tagged_shape(
+    alloc: Global,
+    version: Version,
+    tag: &str,
+    inside: &Json,
+) -> Result<Option<Shape>, AllocError>
     ensures { IfOk result (λ found. option_map shape_view found
-        ≡ shape_under tag.now (view inside.now) (shape_of (view inside.now))) }
+        ≡ shape_under version tag.now (view inside.now) (shape_of version (view inside.now))
+        (row_in version (view inside.now)) (named_row_in version (view inside.now))) }
 {
+    let second = matches!(version, Version::Second);
     match tag {
         "unit_struct" => unit_struct(alloc, inside),
-        "option" => match shape(alloc, inside)? {
-            Some(inside) => Ok(Some(Shape::Option(Box::new(alloc, inside)?))),
+        "option" => match boxed_shape(alloc, version, inside)? {
+            Some(inside) => Ok(Some(Shape::Option(inside))),
+            None => Ok(None),
+        },
+        "seq" => match boxed_shape(alloc, version, inside)? {
+            Some(inside) => Ok(Some(Shape::Seq(inside))),
+            None => Ok(None),
+        },
+        "tuple" => match row(alloc, version, inside)? {
+            Some(row) => Ok(Some(Shape::Tuple(row))),
+            None => Ok(None),
+        },
+        "tuple_struct" => match named_row(alloc, version, inside)? {
+            Some((name, row)) => Ok(Some(Shape::TupleStruct(name, row))),
+            None => Ok(None),
+        },
+        "prefix" if second => match row(alloc, version, inside)? {
+            Some(row) => Ok(Some(Shape::Prefix(row))),
+            None => Ok(None),
+        },
+        "prefix_struct" if second => match named_row(alloc, version, inside)? {
+            Some((name, row)) => Ok(Some(Shape::PrefixStruct(name, row))),
             None => Ok(None),
         },
         _ => Ok(None),
     }
 }
 
+#[cycle(shape)]
+fn boxed_shape(
+    alloc: Global,
+    version: Version,
+    json: &Json,
+) -> Result<Option<Box<Shape>>, AllocError>
+    ensures { IfOk result (λ found. option_map (λ b. shape_view b.value) found ≡ shape_of version (view json.now)) }
+{
+    match shape(alloc, version, json)? {
+        Some(inside) => Ok(Some(Box::new(alloc, inside)?)),
+        None => Ok(None),
+    }
+}
+
+// Shapes in an array.
+#[cycle(shape)]
+fn row(alloc: Global, version: Version, json: &Json) -> Result<Option<Vec<Shape>>, AllocError>
+    ensures { IfOk result (λ found. option_map (λ v. map shape_view v.items) found ≡ row_in version (view json.now)) }
+{
+    match json {
+        Json::Array(items) => shapes(alloc, version, items),
+        _ => Ok(None),
+    }
+}
+
+#[cycle(shape)]
+#[tactic(auto, using(crate::proofs::Elements::steps))]
+fn shapes(alloc: Global, version: Version, items: &[Json]) -> Result<Option<Vec<Shape>>, AllocError>
+    ensures { IfOk result (λ found. option_map (λ v. map shape_view v.items) found ≡ row_of version (items_view items.now)) }
+{
+    let mut shapes = Vec::with_capacity(alloc, items.len())?;
+    for item in items {
+        let Some(inside) = shape(alloc, version, item)? else {
+            return Ok(None);
+        };
+        shapes.push(inside)?;
+    }
+    Ok(Some(shapes))
+}
+
+// A name and shapes, in an array of the two.
+#[cycle(shape)]
+#[tactic(auto, using(crate::proofs::NamePairs::rows))]
+fn named_row(
+    alloc: Global,
+    version: Version,
+    json: &Json,
+) -> Result<Option<(Text, Vec<Shape>)>, AllocError>
+    ensures { IfOk result (λ found. option_map (λ n. (n.0, map shape_view n.1.items)) found
+        ≡ named_row_in version (view json.now)) }
+{
+    let Some((name, inside)) = named(json) else {
+        return Ok(None);
+    };
+    match row(alloc, version, inside)? {
+        Some(row) => Ok(Some((Text::new(alloc, name)?, row))),
+        None => Ok(None),
+    }
+}
+
 fn unit_struct(alloc: Global, json: &Json) -> Result<Option<Shape>, AllocError>
     ensures { IfOk result (λ found. option_map shape_view found ≡ unit_struct_in (view json.now)) }
 {
-    match json {
-        Json::String(name) => Ok(Some(Shape::UnitStruct(Text::new(alloc, name.as_str())?))),
-        _ => Ok(None),
+    match name(json) {
+        Some(name) => Ok(Some(Shape::UnitStruct(Text::new(alloc, name)?))),
+        None => Ok(None),
     }
 }
 
@@ -103,7 +194,7 @@ fn word_tree(word: &str) -> Option<Value>
 #[cycle(tree)]
 fn tagged_tree(alloc: Global, tag: &str, inside: Json) -> Result<Option<Value>, AllocError>
     ensures { IfOk result (λ found. option_map node_view found
-        ≡ tree_under tag.now (view inside) (tree_of (view inside))) }
+        ≡ tree_under tag.now (view inside) (tree_of (view inside)) (trees_in (view inside))) }
 {
     match tag {
         "Some" => match tree(alloc, inside)? {
@@ -113,8 +204,37 @@ fn tagged_tree(alloc: Global, tag: &str, inside: Json) -> Result<Option<Value>, 
             }
             None => Ok(None),
         },
+        "Seq" => seq(alloc, inside),
         _ => tagged_scalar(alloc, tag, inside),
     }
+}
+
+#[cycle(tree)]
+fn seq(alloc: Global, json: Json) -> Result<Option<Value>, AllocError>
+    ensures { IfOk result (λ found. option_map node_view found
+        ≡ option_map (λ ts. node.seq (nodes_of ts)) (trees_in (view json))) }
+{
+    let Json::Array(items) = json else {
+        return Ok(None);
+    };
+    match trees(alloc, items)? {
+        Some(items) => Ok(Some(Value::Seq(Items::from_vec(items)))),
+        None => Ok(None),
+    }
+}
+
+#[cycle(tree)]
+fn trees(alloc: Global, items: Vec<Json>) -> Result<Option<Vec<Value>>, AllocError>
+    ensures { IfOk result (λ found. option_map (λ v. map node_view v.items) found ≡ trees_of (items_view items.items)) }
+{
+    let mut trees = Vec::with_capacity(alloc, items.len())?;
+    for item in items {
+        let Some(inside) = tree(alloc, item)? else {
+            return Ok(None);
+        };
+        trees.push(inside)?;
+    }
+    Ok(Some(trees))
 }
 
 fn tagged_scalar(alloc: Global, tag: &str, inside: Json) -> Result<Option<Value>, AllocError>

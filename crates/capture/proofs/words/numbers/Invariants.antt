@@ -1,7 +1,7 @@
 use Rattle.std.proofs.Common.{◌≡◌, drop}
 use Rattle.serde_json.specs.View.{items_view}
 use Rattle.capture.specs.Words.{bytes_from}
-use Rattle.capture.proofs.Numbers.{after}
+use Rattle.capture.proofs.Elements.{after}
 use Rattle.capture.proofs.words.numbers.Given as goal
 
 abbrev pub invariant-loop-item : goal.invariant-loop-item
