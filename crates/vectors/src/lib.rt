@@ -2,6 +2,10 @@
 #![tactic(auto)]
 
 #[cfg(test)]
+mod lenient;
+#[cfg(test)]
 mod options;
 #[cfg(test)]
 mod paths;
+#[cfg(test)]
+mod sequences;

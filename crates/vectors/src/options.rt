@@ -32,7 +32,7 @@ fn number_within(data: Data, depth: usize) -> Option<u64> {
         let Data::Option(Some(inside)) = data else {
             return None;
         };
-        data = Box::into_inner(inside);
+        data = inside.into_inner();
     }
     match data {
         Data::Unsigned(n) => Some(n),
