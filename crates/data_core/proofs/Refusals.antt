@@ -3,7 +3,7 @@ use Rattle.std.proofs.Common.{◌≡◌, ◌≢◌, ◌↔◌, Bool, true, false
 use Rattle.data_core.specs.declared.fault.Fault.{Fault}
 use Rattle.data_core.specs.declared.path.Segment.{Segment}
 use Rattle.data_core.specs.Fault.{IsCalled}
-use Rattle.data_core.specs.Tracking.{Refusal, clear, held, marked, HoldsPath, left, left_with}
+use Rattle.data_core.specs.Tracking.{Refusal, clear, held, marked, HoldsPath, left, left_key, left_with, dropped}
 use Rattle.data_core.specs.Outcome.{Outcome, given, refused, under, and_then, IsRefused, Gives}
 
 -- the second outcome is refused wherever the first is
@@ -39,6 +39,18 @@ pub HoldsPath-left : (tracks before : Bool) (segment : Segment) (old mid : Refus
 HoldsPath-left false before segment old mid path w h t c = absurd (cc)
 HoldsPath-left true true segment old mid path w h t c = absurd (w.0 refl c)
 HoldsPath-left true false segment old mid path w h t c = HoldsPath-left_with segment mid path (h t c)
+
+HoldsPath-dropped : (segment : Segment) (mid : Refusal) (path : List Segment) → HoldsPath mid path → HoldsPath (left_with segment true (dropped mid)) (segment ∷ [])
+HoldsPath-dropped segment clear path h = refl
+HoldsPath-dropped segment (held p) path h = refl
+HoldsPath-dropped segment marked path h = h
+
+pub HoldsPath-left_key : (tracks before : Bool) (segment : Segment) (old mid : Refusal) (path : List Segment)
+    → (IsTrue before ↔ (old ≢ clear)) → (tracks ≡ true → old ≡ clear → HoldsPath mid path)
+    → tracks ≡ true → old ≡ clear → HoldsPath (left_key tracks segment before true mid) (segment ∷ [])
+HoldsPath-left_key false before segment old mid path w h t c = absurd (cc)
+HoldsPath-left_key true true segment old mid path w h t c = absurd (w.0 refl c)
+HoldsPath-left_key true false segment old mid path w h t c = HoldsPath-dropped segment mid path (h t c)
 
 -- the refusal of a nested read, once its segment is put before the path
 IsRefused-left : {A : Type 0} (tracks before : Bool) (segment : Segment) (fault : Option Fault) (o : Outcome A) (old mid new : Refusal)

@@ -24,9 +24,12 @@ pub data Ask : Type 0 where
   option : Ask
   unit : Ask
   unit_struct : List ℕ → Ask
+  newtype_struct : List ℕ → Ask
   seq : Ask
   tuple : ℕ → Ask
   tuple_struct : List ℕ → ℕ → Ask
+  map : Ask
+  struct : List ℕ → List (List ℕ) → Ask
   identifier : Ask
   ignored_any : Ask
 
@@ -51,8 +54,11 @@ ask hints.ByteBuf = byte_buf
 ask hints.Option = option
 ask hints.Unit = unit
 ask (hints.UnitStruct name) = unit_struct name.now
+ask (hints.NewtypeStruct name) = newtype_struct name.now
 ask hints.Seq = seq
 ask (hints.Tuple len) = tuple len
 ask (hints.TupleStruct name len) = tuple_struct name.now len
+ask hints.Map = map
+ask (hints.Struct name fields) = struct name.now fields.now
 ask hints.Identifier = identifier
 ask hints.IgnoredAny = ignored_any

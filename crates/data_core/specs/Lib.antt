@@ -4,9 +4,15 @@ pub mod Unexpected
 pub mod Ask
 pub mod Source
 pub mod Sequence
+pub mod Table
 pub mod Node
 pub mod Depth
 pub mod NodeCode
+pub mod Rank
+pub mod RankLaws
+pub mod Order
+pub mod OrderLaws
+pub mod Pairs
 pub mod Refused
 pub mod Show
 pub mod Tracking

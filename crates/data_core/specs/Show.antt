@@ -4,6 +4,7 @@ use Rattle.data_core.specs.declared.fault.Fault.{Fault}
 use Rattle.data_core.specs.Source.{Source, Offer}
 use Rattle.data_core.specs.Source as spec
 use Rattle.data_core.specs.Sequence.{Sequence}
+use Rattle.data_core.specs.Table.{Table}
 use Rattle.data_core.specs.declared.de.Scalar as code
 use Rattle.data_core.specs.declared.de.Scalar.TheVariants as scalars
 use Rattle.data_core.specs.declared.de.Shown.{Shown}
@@ -33,20 +34,24 @@ abbrev pub Refuses : Option Fault → Offer → Type 0
 Refuses None offer = Unit {0}
 Refuses (Some f) offer = offer ≡ spec.refused f
 
-module _ {D E T B S : Type 0} where
+module _ {D E T B S M : Type 0} where
   -- the offer that was shown
-  abbrev pub shown_offer : (T → List ℕ) → (B → List ℕ) → (D → Source) → (S → Sequence) → Shown D E T B S → Offer
-  shown_offer text bytes source sequence (shown.Scalar s) = spec.scalar (scalar_view text bytes s)
-  shown_offer text bytes source sequence (shown.Some d) = spec.some (source d)
-  shown_offer text bytes source sequence (shown.Seq s) = spec.elements (sequence s).checks (sequence s).left
+  abbrev pub shown_offer : (T → List ℕ) → (B → List ℕ) → (D → Source) → (S → Sequence) → (M → Table) → Shown D E T B S M → Offer
+  shown_offer text bytes source sequence table (shown.Scalar s) = spec.scalar (scalar_view text bytes s)
+  shown_offer text bytes source sequence table (shown.Some d) = spec.some (source d)
+  shown_offer text bytes source sequence table (shown.NewtypeStruct d) = spec.newtype_struct (source d)
+  shown_offer text bytes source sequence table (shown.Seq s) = spec.elements (sequence s).checks (sequence s).left
+  shown_offer text bytes source sequence table (shown.Map m) = spec.entries (table m).checks (table m).left
 
   -- what a call shows is this offer
-  abbrev pub Shows : (T → List ℕ) → (B → List ℕ) → (D → Source) → (S → Sequence) → (E → Option Fault) → Result (Shown D E T B S) E → Offer → Type 0
-  Shows text bytes source sequence fault (Ok s) offer = shown_offer text bytes source sequence s ≡ offer
-  Shows text bytes source sequence fault (Err e) offer = Refuses (fault e) offer
+  abbrev pub Shows : (T → List ℕ) → (B → List ℕ) → (D → Source) → (S → Sequence) → (M → Table) → (E → Option Fault) → Result (Shown D E T B S M) E → Offer → Type 0
+  Shows text bytes source sequence table fault (Ok s) offer = shown_offer text bytes source sequence table s ≡ offer
+  Shows text bytes source sequence table fault (Err e) offer = Refuses (fault e) offer
 
-  -- of a sequence that is shown no element was taken yet
-  abbrev pub Begins : (S → Sequence) → Shown D E T B S → Type 0
-  Begins sequence (shown.Scalar s) = Unit {0}
-  Begins sequence (shown.Some d) = Unit {0}
-  Begins sequence (shown.Seq s) = (sequence s).taken ≡ 0
+  -- of a sequence or a map that is shown nothing was taken yet
+  abbrev pub Begins : (S → Sequence) → (M → Table) → Shown D E T B S M → Type 0
+  Begins sequence table (shown.Scalar s) = Unit {0}
+  Begins sequence table (shown.Some d) = Unit {0}
+  Begins sequence table (shown.NewtypeStruct d) = Unit {0}
+  Begins sequence table (shown.Seq s) = (sequence s).taken ≡ 0
+  Begins sequence table (shown.Map m) = (table m).taken ≡ 0

@@ -45,7 +45,24 @@ left false segment before failed now = now
 left true segment true failed now = now
 left true segment false failed now = left_with segment failed now
 
+-- a refusal that is dropped; a path that was lost stays lost
+abbrev pub dropped : Refusal → Refusal
+dropped clear = clear
+dropped (held p) = clear
+dropped marked = marked
+
+-- after the read of a key: its refusal has the entry's segment alone, whatever stood inside the key
+abbrev pub left_key : Bool → Segment → Bool → Bool → Refusal → Refusal
+left_key false segment before failed now = now
+left_key true segment true failed now = now
+left_key true segment false failed now = left_with segment failed (dropped now)
+
 -- what the way out of a nested read answers, by the track before and after
 abbrev pub Leaves : {E : Type 0} → (E → Option Fault) → Bool → Segment → Bool → Bool → Refusal → Refusal → Result (Unit {0}) E → Type 0
 Leaves fault tracks segment before failed old new (Ok u) = new ≡ left tracks segment before failed old
 Leaves fault tracks segment before failed old new (Err e) = fault e ≡ None
+
+-- the same of the read of a key
+abbrev pub LeavesKey : {E : Type 0} → (E → Option Fault) → Bool → Segment → Bool → Bool → Refusal → Refusal → Result (Unit {0}) E → Type 0
+LeavesKey fault tracks segment before failed old new (Ok u) = new ≡ left_key tracks segment before failed old
+LeavesKey fault tracks segment before failed old new (Err e) = fault e ≡ None

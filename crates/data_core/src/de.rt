@@ -1,10 +1,11 @@
 //! Deserializers.
-ghost use Rattle.std.specs.Prelude.{◌≡◌, ◌≢◌, ◌-◌, true, IsTrue, OnOk, IfOk, IfSome, Bool};
+ghost use Rattle.std.specs.Prelude.{◌≡◌, ◌≢◌, ◌-◌, true, false, IsTrue, OnOk, IfOk, IfSome, IsSome, Bool};
 ghost use Rattle.data_core.specs.Ask.{ask};
-ghost use Rattle.data_core.specs.Source.{Source, count, offer_of};
+ghost use Rattle.data_core.specs.Source.{Source, count, count_entries, offer_of};
 ghost use Rattle.data_core.specs.Sequence.{Sequence, Takes, Ends, surplus};
+ghost use Rattle.data_core.specs.Table.{Table, TakesKey, TakesValue, Catches, text_of, with_caught, value_taken, entry_segment, surplus_entries};
 ghost use Rattle.data_core.specs.Show.{Shows, Begins};
-ghost use Rattle.data_core.specs.Tracking.{Leaves, marked};
+ghost use Rattle.data_core.specs.Tracking.{Leaves, LeavesKey, marked};
 ghost use Rattle.data_core.specs.declared.path.Segment.TheVariants as segment;
 
 use crate::error::DeError;
@@ -36,7 +37,7 @@ pub enum Scalar<T: Drop, B: Drop> {
 
 /// A place in some data, from which a reader pulls: serde's `Deserializer`, whose visits are the
 /// variants of `Shown`. Its parts are deserializers of the same type, and its calls on what is under
-/// way stand for serde's `SeqAccess`.
+/// way stand for serde's `SeqAccess` and `MapAccess`.
 pub trait Deserializer: Drop {
     type Error: DeError;
 
@@ -47,6 +48,9 @@ pub trait Deserializer: Drop {
     /// The elements of a sequence, under way.
     type Seq: Drop;
 
+    /// The entries of a map, under way.
+    type Map: Drop;
+
     // Whether it notes the path of a refusal.
     ghost tracks: { Bool };
 
@@ -54,11 +58,13 @@ pub trait Deserializer: Drop {
 
     ghost sequence: { Self.Seq → Sequence };
 
+    ghost table: { Self.Map → Table };
+
     /// What is there, for a reader that hopes for `hint`.
     fn show(self, hint: Hint<'_>) -> Result<Shown<Self>, Self::Error>
-        ensures shows { Shows Self.Text.text Self.Bytes.bytes source sequence Self.Error.fault result
+        ensures shows { Shows Self.Text.text Self.Bytes.bytes source sequence table Self.Error.fault result
             (offer_of (source self) (ask hint.entry)) }
-        ensures begins { IfOk result (Begins sequence) };
+        ensures begins { IfOk result (Begins sequence table) };
 
     /// The next element, and none where none is left.
     fn next_element(seq: &mut Self::Seq) -> Result<Option<Self>, Self::Error>
@@ -90,6 +96,63 @@ pub trait Deserializer: Drop {
     fn end_seq(alloc: Global, seq: Self::Seq) -> Result<(), Self::Error>
         ensures { Ends Self.Error.fault result
             (surplus (sequence seq).checks (sequence seq).taken (sequence seq).left) };
+
+    /// The key of the next entry, and none where none is left. A value that waits is dropped.
+    fn next_key(map: &mut Self::Map) -> Result<Option<Self>, Self::Error>
+        ensures takes { TakesKey source Self.Error.fault result (table map.old) (table map.new) }
+        ensures checks { (table map.new).checks ≡ (table map.old).checks };
+
+    /// What the key that was taken last shows, for a reader that hopes for `hint`. A deserializer
+    /// that tracks keeps the text of it, and forgets that of an earlier key first.
+    fn show_key(map: &mut Self::Map, key: Self, hint: Hint<'_>) -> Result<Shown<Self>, Self::Error>
+        ensures shows { Shows Self.Text.text Self.Bytes.bytes source sequence table Self.Error.fault result
+            (offer_of (source key) (ask hint.entry)) }
+        ensures begins { IfOk result (Begins sequence table) }
+        ensures caught { tracks ≡ true → Catches Self.Error.fault result (table map.new).caught
+            (text_of (offer_of (source key) (ask hint.entry))) }
+        ensures table { table map.new ≡ with_caught (table map.new).caught (table map.old) };
+
+    /// The way out of the read of the key that was taken last, with `held` and `failed` as in
+    /// `leave_element`. Where the read failed, the text of the key goes into the path.
+    fn leave_key(
+        map: &mut Self::Map,
+        held: bool,
+        failed: bool,
+        track: &mut Track,
+    ) -> Result<(), Self::Error>
+        ensures path { LeavesKey Self.Error.fault tracks (entry_segment (table map.old).caught) held failed
+            track.old track.new result }
+        ensures lost { tracks ≡ true → OnOk result (IsTrue failed → track.new ≢ marked) }
+        ensures table { OnOk result (table map.new ≡ with_caught (table map.new).caught (table map.old)) }
+        ensures caught { OnOk result (failed ≡ false → (table map.new).caught ≡ (table map.old).caught) };
+
+    /// The value that waits.
+    fn next_value(map: &mut Self::Map) -> Result<Self, Self::Error>
+        requires { IsSome (table map.old).waiting }
+        ensures takes { TakesValue source Self.Error.fault result (table map.old).waiting }
+        ensures table { OnOk result (table map.new ≡ value_taken (table map.old)) };
+
+    /// The way out of the read of the value that was taken last, with `held` and `failed` as in
+    /// `leave_element`. The text of its key goes into the path of a refusal.
+    fn leave_value(
+        map: &mut Self::Map,
+        held: bool,
+        failed: bool,
+        track: &mut Track,
+    ) -> Result<(), Self::Error>
+        ensures path { Leaves Self.Error.fault tracks (entry_segment (table map.old).caught) held failed
+            track.old track.new result }
+        ensures lost { tracks ≡ true → OnOk result (IsTrue failed → track.new ≢ marked) }
+        ensures table { OnOk result (table map.new ≡ with_caught (table map.new).caught (table map.old)) };
+
+    /// How many entries are left, where that is known. Takes no memory.
+    fn entries_left(map: &Self::Map) -> Option<usize>
+        ensures { IfSome result (λ n. n ≡ count_entries (table map.now).left) };
+
+    /// The end of a reader that may have left entries.
+    fn end_map(alloc: Global, map: Self::Map) -> Result<(), Self::Error>
+        ensures { Ends Self.Error.fault result
+            (surplus_entries (table map).checks (table map).taken (table map).left) };
 }
 
 /// What a deserializer shows: the visits of serde's `Visitor`, as one value.
@@ -98,6 +161,10 @@ pub enum Shown<D: Deserializer> {
     Scalar(Scalar<D::Text, D::Bytes>),
     /// An option that is there, and its inside.
     Some(D),
+    /// The inside of a newtype struct.
+    NewtypeStruct(D),
     /// The elements of a sequence, of which none was taken yet.
     Seq(D::Seq),
+    /// The entries of a map, of which none was taken yet.
+    Map(D::Map),
 }

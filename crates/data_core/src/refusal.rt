@@ -13,12 +13,16 @@ use std::alloc::Global;
 /// The error of a reader that does not take what it is shown: the default bodies of serde's
 /// `Visitor`. What the reader expected is handed in as a text.
 pub fn refused<D: Deserializer>(alloc: Global, shown: Shown<D>, expected: &str) -> D::Error
-    ensures { IsCalled (D.Error.fault result) (fault_of (shown_offer D.Text.text D.Bytes.bytes D.source D.sequence shown)) }
+    ensures { IsCalled (D.Error.fault result) (fault_of (shown_offer D.Text.text D.Bytes.bytes D.source D.sequence D.table shown)) }
 {
     match shown {
         Shown::Scalar(scalar) => refused_scalar::<D>(alloc, scalar, expected),
         Shown::Some(_) => D::Error::invalid_type(alloc, Unexpected::Option, expected),
+        Shown::NewtypeStruct(_) => {
+            D::Error::invalid_type(alloc, Unexpected::NewtypeStruct, expected)
+        }
         Shown::Seq(_) => D::Error::invalid_type(alloc, Unexpected::Seq, expected),
+        Shown::Map(_) => D::Error::invalid_type(alloc, Unexpected::Map, expected),
     }
 }
 

@@ -31,9 +31,9 @@ pub trait DeserializeSeed: Drop + Sized {
         shown: Shown<D>,
         track: &mut Track,
     ) -> Result<Self::Value, D::Error>
-        requires { Begins D.sequence shown }
+        requires { Begins D.sequence D.table shown }
         ensures { Among D.Error.fault D.tracks result
-            (reads self (shown_offer D.Text.text D.Bytes.bytes D.source D.sequence shown)) track.old track.new };
+            (reads self (shown_offer D.Text.text D.Bytes.bytes D.source D.sequence D.table shown)) track.old track.new };
 
     ghost passes_refusals: { PassesRefusals reads };
 

@@ -1,6 +1,6 @@
 //! The path of the first refusal.
 ghost use Rattle.std.specs.Prelude.{◌≡◌, ◌≢◌, ◌↔◌, ◌⊎◌, IsTrue};
-ghost use Rattle.data_core.specs.Tracking.{clear, marked, noted, added, path_of};
+ghost use Rattle.data_core.specs.Tracking.{clear, marked, noted, added, dropped, path_of};
 
 use crate::path::{Path, Segment};
 use std::alloc::Global;
@@ -82,6 +82,16 @@ impl Track {
         };
         if path.push(segment).is_err() {
             self.state = State::Marked;
+        }
+    }
+
+    /// Drops a path that is held, and with it the refusal. One that was lost stays lost. Takes no
+    /// memory.
+    pub fn drop_path(&mut self)
+        ensures { self.new ≡ dropped self.old }
+    {
+        if !self.is_marked() {
+            self.state = State::Clear;
         }
     }
 
