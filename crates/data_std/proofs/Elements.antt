@@ -1,10 +1,11 @@
 -- The elements of a sequence, read one after the other.
-use Rattle.std.proofs.Common.{◌≡◌, ℕ, Bool, List, [], ◌∷◌, ◌++◌, Option, Some, None, refl, ap, sym, inl, inr}
+use Rattle.std.proofs.Common.{◌≡◌, ℕ, Bool, List, [], ◌∷◌, ◌++◌, Option, Some, None, Err, refl, ap, sym, inl, inr}
 use Rattle.std.proofs.lemmas.List.{append_assoc, append-nil}
 use Rattle.data_core.specs.declared.fault.Fault.{Fault}
 use Rattle.data_core.specs.declared.path.Segment.{Segment}
+use Rattle.data_core.specs.Fault.{IsCalled}
 use Rattle.data_core.specs.Source.{Source, Sources, end, more}
-use Rattle.data_core.specs.Sequence.{rest_of, place_after, IsNext}
+use Rattle.data_core.specs.Sequence.{rest_of, place_after, IsNext, Ends}
 use Rattle.data_core.specs.Tracking.{Refusal, clear}
 use Rattle.data_core.specs.Outcome.{Outcome, given, refused, RefusedAmong}
 use Rattle.data_std.specs.Compound.{EachReads}
@@ -21,6 +22,10 @@ RefusedAmong-whole tracks (Some f) P Q old before new clears carries h =
 abbrev pub after : {T : Type 0} → List T → Outcome (List T) → Outcome (List T)
 after xs (given ys) = given (xs ++ ys)
 after xs (refused f path) = refused f path
+
+pub after_none : {T : Type 0} (o : Outcome (List T)) → after [] o ≡ o
+after_none (given ys) = refl
+after_none (refused f path) = refl
 
 pub after_more : {T : Type 0} (xs : List T) (x : T) (o : Outcome (List T)) → after xs (after (x ∷ []) o) ≡ after (xs ++ x ∷ []) o
 after_more xs x (given ys) = ap given (sym (append_assoc xs (x ∷ []) ys))
@@ -44,3 +49,14 @@ EachReads-ends reads i (more s ss) h = absurd h
 
 pub after_end : {T : Type 0} (xs : List T) → after xs (given []) ≡ given xs
 after_end xs = ap given (append-nil xs)
+
+-- a refusal of what is left at an end, outside of every nested read
+RefusedAmong-here : {A : Type 0} (tracks : Bool) (fault : Option Fault) (f : Fault) (P : Outcome A → Type 0) (old new : Refusal)
+    → IsCalled fault f → P (refused f []) → (old ≡ clear → new ≡ clear) → RefusedAmong tracks fault P old new
+RefusedAmong-here tracks None f P old new h is clears = tt
+RefusedAmong-here tracks (Some g) f P old new h is clears = rw h ([], is, λ t c. rw (clears c) refl)
+
+pub RefusedAmong-end : {A E : Type 0} (fault : E → Option Fault) (e : E) (tracks : Bool) (left : Option Fault) (P : Outcome A → Type 0) (old new : Refusal)
+    → Ends fault (Err e) left → ((f : Fault) → left ≡ Some f → P (refused f [])) → (old ≡ clear → new ≡ clear) → RefusedAmong tracks (fault e) P old new
+RefusedAmong-end fault e tracks None P old new h is clears = rw h tt
+RefusedAmong-end fault e tracks (Some f) P old new h is clears = RefusedAmong-here tracks (fault e) f P old new h (is f refl) clears

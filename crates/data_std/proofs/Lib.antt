@@ -1,3 +1,5 @@
 pub mod Texts
 pub mod Elements
 pub mod Items
+pub mod Keys
+pub mod Entries

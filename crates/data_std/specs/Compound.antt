@@ -1,4 +1,4 @@
--- What the readers of options, lists and tuples make of an offer.
+-- What the readers of options, boxes, lists and tuples make of an offer.
 use Rattle.std.specs.Prelude.{◌≡◌, ℕ, ◌+◌, List, [], ◌∷◌, Bool, Option, Some, None}
 use Rattle.data_core.specs.declared.fault.Fault.{Fault}
 use Rattle.data_core.specs.declared.fault.Fault.TheVariants.{InvalidLength}
@@ -14,6 +14,11 @@ OptionReads reads (scalar none) outcome = outcome ≡ given None
 OptionReads reads (scalar unit) outcome = outcome ≡ given None
 OptionReads reads (some s) outcome = AndThen (reads s) (λ x o. o ≡ given (Some x)) outcome
 OptionReads reads offer outcome = outcome ≡ not_taken offer
+
+-- what the inside is read as, seen through a view of what holds it
+abbrev pub BoxReads : {T V : Type 0} → (V → T) → (Offer → Outcome T → Type 0) → Offer → Outcome V → Type 0
+BoxReads view reads offer (given v) = reads offer (given (view v))
+BoxReads view reads offer (refused f path) = reads offer (refused f path)
 
 -- each element in turn, from a place in the sequence on, up to the first fault
 abbrev pub EachReads : {T : Type 0} → (Source → Outcome T → Type 0) → ℕ → Sources → Outcome (List T) → Type 0

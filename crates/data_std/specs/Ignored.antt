@@ -1,10 +1,21 @@
 -- What is read and dropped: nothing, or the first fault with the path to it.
-use Rattle.std.specs.Prelude.{ℕ, ◌+◌, max, []}
+use Rattle.std.specs.Prelude.{ℕ, ◌+◌, max, [], ◌∷◌, Option, Some, None}
+use Rattle.data_core.specs.declared.path.Segment.{Segment}
 use Rattle.data_core.specs.declared.path.Segment.TheVariants.{Seq}
 use Rattle.data_core.specs.Ask.{ignored_any}
-use Rattle.data_core.specs.Source.{Source, source, Offer, scalar, some_itself, some, elements, Sources, end, more}
+use Rattle.data_core.specs.Source.{Source, source, Offer, scalar, some_itself, some, elements, newtype_itself, newtype_struct, entries, Sources, end, more, Entries, no_entries, entry}
 use Rattle.data_core.specs.Source as offer
+use Rattle.data_core.specs.Table.{segment_of_key}
 use Rattle.data_core.specs.Outcome.{Outcome, given, refused, under, and_then}
+
+-- the outcome of a key one level further out: a refusal's path is its entry's segment alone
+abbrev pub at_key : {A : Type 0} → Segment → Outcome A → Outcome A
+at_key segment (given a) = given a
+at_key segment (refused f path) = refused f (segment ∷ [])
+
+-- a key and then its value, both at the segment of their entry
+abbrev pub ignored_pair : Segment → Outcome (Unit {0}) → Outcome (Unit {0}) → Outcome (Unit {0})
+ignored_pair segment key value = and_then (at_key segment key) (λ u. under segment value)
 
 abbrev mutual
   -- at this ask no source stands for its own inside, so each part is a smaller source
@@ -16,12 +27,21 @@ abbrev mutual
   ignored_offer some_itself = given tt
   ignored_offer (some s) = ignored s
   ignored_offer (elements checks ss) = ignored_rest 0 ss
+  ignored_offer newtype_itself = given tt
+  ignored_offer (newtype_struct s) = ignored s
+  ignored_offer (entries checks es) = ignored_entries es
   ignored_offer (offer.refused f) = refused f []
 
   -- each element in turn, from a place in the sequence on, up to the first fault
   pub ignored_rest : ℕ → Sources → Outcome (Unit {0})
   ignored_rest i end = given tt
   ignored_rest i (more s ss) = and_then (under (Seq i) (ignored s)) (λ u. ignored_rest (i + 1) ss)
+
+  -- each entry in turn, its key and then its value, up to the first fault
+  pub ignored_entries : Entries → Outcome (Unit {0})
+  ignored_entries no_entries = given tt
+  ignored_entries (entry k v es) =
+      and_then (ignored_pair (segment_of_key ignored_any k) (ignored k) (ignored v)) (λ u. ignored_entries es)
 
 abbrev mutual
   -- how deep a source is that is read and dropped
@@ -33,8 +53,20 @@ abbrev mutual
   depth_of_offer some_itself = 0
   depth_of_offer (some s) = depth s
   depth_of_offer (elements checks ss) = depth_of_all ss
+  depth_of_offer newtype_itself = 0
+  depth_of_offer (newtype_struct s) = depth s
+  depth_of_offer (entries checks es) = depth_of_entries es
   depth_of_offer (offer.refused f) = 0
 
   pub depth_of_all : Sources → ℕ
   depth_of_all end = 0
   depth_of_all (more s ss) = max (depth s) (depth_of_all ss)
+
+  pub depth_of_entries : Entries → ℕ
+  depth_of_entries no_entries = 0
+  depth_of_entries (entry k v es) = max (max (depth k) (depth v)) (depth_of_entries es)
+
+-- of the value that waits
+abbrev pub depth_of_waiting : Option Source → ℕ
+depth_of_waiting None = 0
+depth_of_waiting (Some s) = depth s

@@ -1,5 +1,5 @@
 -- What a reader handed out, as the outcome that its row gives, and outcomes of readers in some steps.
-use Rattle.std.specs.Prelude.{◌≡◌, ◌⊎◌, List, ◌∷◌}
+use Rattle.std.specs.Prelude.{◌≡◌, ◌⊎◌, List, [], ◌∷◌}
 use Rattle.data_core.specs.declared.path.Segment.{Segment}
 use Rattle.data_core.specs.Ask.{Ask}
 use Rattle.data_core.specs.Source.{Source, Offer, offer_of}
@@ -18,6 +18,11 @@ ReadsFrom asks reads s = reads (offer_of s asks)
 abbrev pub Under : {A : Type 0} → Segment → (Outcome A → Type 0) → Outcome A → Type 0
 Under segment reads (given a) = reads (given a)
 Under segment reads (refused f path) = (inner : List Segment) × reads (refused f inner) × (path ≡ segment ∷ inner)
+
+-- the outcomes of a key of the entry that this segment leads to, whose inner path is dropped
+abbrev pub AtKey : {A : Type 0} → Segment → (Outcome A → Type 0) → Outcome A → Type 0
+AtKey segment reads (given a) = reads (given a)
+AtKey segment reads (refused f path) = (inner : List Segment) × reads (refused f inner) × (path ≡ segment ∷ [])
 
 abbrev pub FailsAs : {A B : Type 0} → (Outcome A → Type 0) → Outcome B → Type 0
 FailsAs first (given b) = ⊥

@@ -1,10 +1,12 @@
 //! What is read and dropped.
-ghost use Rattle.std.specs.Prelude.{◌≡◌, OnOk};
+ghost use Rattle.std.specs.Prelude.{◌≡◌, true, Some, OnOk, IsSome};
 ghost use Rattle.data_core.specs.Ask.{ignored_any};
-ghost use Rattle.data_core.specs.Source.{end};
+ghost use Rattle.data_core.specs.Source.{Source, end, no_entries, offer_of};
+ghost use Rattle.data_core.specs.Table.{Catches, text_of, with_caught, entry_segment, segment_of_key};
+ghost use Rattle.data_core.specs.declared.path.Segment.{Segment};
 ghost use Rattle.data_core.specs.Show.{shown_offer, Begins};
-ghost use Rattle.data_core.specs.Outcome.{Gives};
-ghost use Rattle.data_std.specs.Ignored.{ignored, ignored_offer, ignored_rest};
+ghost use Rattle.data_core.specs.Outcome.{under, Gives};
+ghost use Rattle.data_std.specs.Ignored.{ignored, ignored_offer, ignored_rest, ignored_entries, ignored_pair, at_key};
 ghost use Rattle.data_std.specs.Reads.{IsOutcome};
 
 use crate::types::Deserialize;
@@ -74,6 +76,97 @@ pub fn ignore_rest<D: Deserializer>(
     Ok(())
 }
 
+/// Reads each entry of a map that is left, and drops it. `track` then holds the path of a refusal,
+/// if `D` tracks and no path was held before.
+#[cycle(ignore)]
+pub fn ignore_entries<D: Deserializer>(
+    alloc: Global,
+    map: &mut D::Map,
+    track: &mut Track,
+) -> Result<(), D::Error>
+    ensures value { Gives D.Error.fault D.tracks (λ u. u) result
+        (ignored_entries (D.table map.old).left) track.old track.new }
+    ensures left { OnOk result ((D.table map.new).left ≡ no_entries) }
+{
+    'entries: while let Some(key) = D::next_key(map)? {
+        ignore_entry(alloc, map, key, track)?;
+    }
+    Ok(())
+}
+
+// Reads the key that was taken last and the value that waits, and drops both.
+#[cycle(ignore)]
+fn ignore_entry<D: Deserializer>(
+    alloc: Global,
+    map: &mut D::Map,
+    key: D,
+    track: &mut Track,
+) -> Result<(), D::Error>
+    requires { IsSome (D.table map.old).waiting }
+    ensures value { (v : Source) → (D.table map.old).waiting ≡ Some v → Gives D.Error.fault D.tracks (λ u. u) result
+        (ignored_pair (segment_of_key ignored_any (D.source key)) (ignored (D.source key)) (ignored v)) track.old track.new }
+    ensures left { OnOk result ((D.table map.new).left ≡ (D.table map.old).left) }
+{
+    ignore_key(alloc, map, key, track)?;
+    ignore_value::<D>(alloc, map, track)
+}
+
+// Reads the key that was taken last, and drops it.
+#[cycle(ignore)]
+fn ignore_key<D: Deserializer>(
+    alloc: Global,
+    map: &mut D::Map,
+    key: D,
+    track: &mut Track,
+) -> Result<(), D::Error>
+    ensures value { Gives D.Error.fault D.tracks (λ u. u) result
+        (at_key (segment_of_key ignored_any (D.source key)) (ignored (D.source key))) track.old track.new }
+    ensures caught { D.tracks ≡ true → OnOk result ((D.table map.new).caught ≡ text_of (offer_of (D.source key) ignored_any)) }
+    ensures table { OnOk result (D.table map.new ≡ with_caught (D.table map.new).caught (D.table map.old)) }
+{
+    let held = track.holds();
+    let read = visit_key(alloc, map, key, track);
+    D::leave_key(map, held, read.is_err(), track)?;
+    read
+}
+
+// Reads what the key shows, and drops it.
+#[cycle(ignore)]
+fn visit_key<D: Deserializer>(
+    alloc: Global,
+    map: &mut D::Map,
+    key: D,
+    track: &mut Track,
+) -> Result<(), D::Error>
+    ensures value { Gives D.Error.fault D.tracks (λ u. u) result (ignored (D.source key)) track.old track.new }
+    ensures caught { D.tracks ≡ true → Catches D.Error.fault result (D.table map.new).caught
+        (text_of (offer_of (D.source key) ignored_any)) }
+    ensures table { D.table map.new ≡ with_caught (D.table map.new).caught (D.table map.old) }
+{
+    let shown = D::show_key(map, key, Hint::IgnoredAny)?;
+    ignore_shown(alloc, shown, track)
+}
+
+// Reads the value that waits, and drops it.
+#[cycle(ignore)]
+fn ignore_value<D: Deserializer>(
+    alloc: Global,
+    map: &mut D::Map,
+    track: &mut Track,
+) -> Result<(), D::Error>
+    requires { IsSome (D.table map.old).waiting }
+    ensures value { (segment : Segment) → (D.tracks ≡ true → segment ≡ entry_segment (D.table map.old).caught)
+        → (v : Source) → (D.table map.old).waiting ≡ Some v → Gives D.Error.fault D.tracks (λ u. u) result
+        (under segment (ignored v)) track.old track.new }
+    ensures left { OnOk result ((D.table map.new).left ≡ (D.table map.old).left) }
+{
+    let value = D::next_value(map)?;
+    let held = track.holds();
+    let read = ignore(alloc, value, track);
+    D::leave_value(map, held, read.is_err(), track)?;
+    read
+}
+
 // Reads what a deserializer stands for, and drops it.
 #[cycle(ignore)]
 fn ignore<D: Deserializer>(alloc: Global, d: D, track: &mut Track) -> Result<(), D::Error>
@@ -90,16 +183,20 @@ fn ignore_shown<D: Deserializer>(
     shown: Shown<D>,
     track: &mut Track,
 ) -> Result<(), D::Error>
-    requires { Begins D.sequence shown }
+    requires { Begins D.sequence D.table shown }
     ensures { Gives D.Error.fault D.tracks (λ u. u) result
-        (ignored_offer (shown_offer D.Text.text D.Bytes.bytes D.source D.sequence shown)) track.old track.new }
+        (ignored_offer (shown_offer D.Text.text D.Bytes.bytes D.source D.sequence D.table shown)) track.old track.new }
 {
     match shown {
         Shown::Scalar(_) => Ok(()),
-        Shown::Some(inner) => ignore(alloc, inner, track),
+        Shown::Some(inner) | Shown::NewtypeStruct(inner) => ignore(alloc, inner, track),
         Shown::Seq(seq) => {
             let mut seq = seq;
             ignore_rest::<D>(alloc, &mut seq, track)
+        }
+        Shown::Map(map) => {
+            let mut map = map;
+            ignore_entries::<D>(alloc, &mut map, track)
         }
     }
 }

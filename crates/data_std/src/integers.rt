@@ -72,9 +72,13 @@ impl<N: Integer> DeserializeSeed for IntegerSeed<N> {
     ghost passes_refusals = { λ _ _. refl };
 }
 
-fn visit_integer<D: Deserializer, N: Integer>(alloc: Global, shown: Shown<D>) -> Result<N, D::Error>
+// What a reader of that integer type makes of an integer of up to 64 bits, and of what it does not take.
+pub(crate) fn visit_integer<D: Deserializer, N: Integer>(
+    alloc: Global,
+    shown: Shown<D>,
+) -> Result<N, D::Error>
     ensures { Answers D.Error.fault N.number result
-        (integer_of N.least N.greatest (shown_offer D.Text.text D.Bytes.bytes D.source D.sequence shown)) }
+        (integer_of N.least N.greatest (shown_offer D.Text.text D.Bytes.bytes D.source D.sequence D.table shown)) }
 {
     match shown {
         Shown::Scalar(Scalar::U8(n)) => unsigned::<D, N>(alloc, u64::from(n)),

@@ -1,12 +1,16 @@
 //! Readers of standard types, and serde's deserializers over values that are at hand.
 #![tactic(auto)]
 
+mod boxes;
 mod ends;
 mod error;
 mod ignored;
 mod integers;
+mod into;
 mod lists;
+mod maps;
 mod options;
+mod pairs;
 mod reading;
 mod scalars;
 mod sequences;
@@ -15,14 +19,20 @@ mod tests;
 mod tuples;
 mod types;
 mod waiting;
+mod wide_integers;
 
+pub use boxes::BoxSeed;
 pub use error::Error;
-pub use ignored::{IgnoredAny, ignore_rest};
+pub use ignored::{IgnoredAny, ignore_entries, ignore_rest};
 pub use integers::{Integer, IntegerSeed};
+pub use into::IntoDeserializer;
 pub use lists::VecSeed;
+pub use maps::MapSeed;
 pub use options::OptionSeed;
-pub use reading::{deserialize, next_element};
-pub use scalars::{BoolSeed, StringSeed};
-pub use sequences::{SeqDeserializer, SeqElements};
+pub use pairs::{MapDeserializer, MapElements, MapEntries};
+pub use reading::{deserialize, next_element, next_entry, next_key, next_value};
+pub use scalars::{BoolSeed, CharSeed, StringSeed, UnitSeed};
+pub use sequences::{SeqDeserializer, SeqElements, SeqEntries};
 pub use tuples::{Tuple1Seed, Tuple2Seed, Tuple3Seed, Tuple4Seed};
 pub use types::Deserialize;
+pub use wide_integers::{WideInteger, WideIntegerSeed};

@@ -1,16 +1,16 @@
-//! Readers of booleans and texts.
+//! Readers of booleans, characters, texts and units.
 ghost use Rattle.std.specs.Prelude.{refl, string_bytes};
 ghost use Rattle.data_core.specs.Ask as asks;
 ghost use Rattle.data_core.specs.Source.{scalar};
 ghost use Rattle.data_core.specs.Source as offer;
 ghost use Rattle.data_core.specs.Outcome.{Answers};
 ghost use Rattle.data_std.specs.Reads.{IsOutcome};
-ghost use Rattle.data_std.specs.Scalars.{boolean_of, text_of};
+ghost use Rattle.data_std.specs.Scalars.{boolean_of, character_of, text_of, unit_of};
 
 use crate::types::Deserialize;
 use data_core::{
     BytesLike, DeError, DeserializeSeed, Deserializer, Hint, Scalar, Shown, TextLike, Track,
-    Unexpected, refused,
+    Unexpected, only_char, refused,
 };
 use std::alloc::{AllocError, Global};
 
@@ -53,6 +53,101 @@ impl Deserialize for bool {
 
     fn seed(_alloc: Global) -> Result<BoolSeed, AllocError> {
         Ok(BoolSeed)
+    }
+}
+
+/// The reader of `()`: it takes a unit.
+#[derive(Drop)]
+pub struct UnitSeed;
+
+impl DeserializeSeed for UnitSeed {
+    type Value = ();
+
+    ghost asks = { λ _. asks.unit };
+
+    ghost reads = { λ _ offer outcome. IsOutcome (λ u. u) (unit_of offer) outcome };
+
+    fn hint(&self) -> Hint<'_> {
+        Hint::Unit
+    }
+
+    fn visit<D: Deserializer>(
+        self,
+        alloc: Global,
+        shown: Shown<D>,
+        _track: &mut Track,
+    ) -> Result<(), D::Error> {
+        match shown {
+            Shown::Scalar(Scalar::Unit) => Ok(()),
+            other => Err(refused(alloc, other, "unit")),
+        }
+    }
+
+    ghost passes_refusals = { λ _ _. refl };
+}
+
+impl Deserialize for () {
+    type Seed = UnitSeed;
+
+    ghost asks = { asks.unit };
+
+    ghost reads = { λ offer outcome. IsOutcome (λ u. u) (unit_of offer) outcome };
+
+    fn seed(_alloc: Global) -> Result<UnitSeed, AllocError> {
+        Ok(UnitSeed)
+    }
+}
+
+/// The reader of `char`: it takes a character, or a text of exactly one.
+#[derive(Drop)]
+pub struct CharSeed;
+
+impl DeserializeSeed for CharSeed {
+    type Value = char;
+
+    ghost asks = { λ _. asks.character };
+
+    ghost reads = { λ _ offer outcome. IsOutcome (λ c. c) (character_of offer) outcome };
+
+    fn hint(&self) -> Hint<'_> {
+        Hint::Char
+    }
+
+    fn visit<D: Deserializer>(
+        self,
+        alloc: Global,
+        shown: Shown<D>,
+        _track: &mut Track,
+    ) -> Result<char, D::Error> {
+        match shown {
+            Shown::Scalar(Scalar::Char(c)) => Ok(c),
+            Shown::Scalar(Scalar::Text(text)) => char_of_text::<D>(alloc, text.as_str()),
+            other => Err(refused(alloc, other, "char")),
+        }
+    }
+
+    ghost passes_refusals = { λ _ _. refl };
+}
+
+impl Deserialize for char {
+    type Seed = CharSeed;
+
+    ghost asks = { asks.character };
+
+    ghost reads = { λ offer outcome. IsOutcome (λ c. c) (character_of offer) outcome };
+
+    fn seed(_alloc: Global) -> Result<CharSeed, AllocError> {
+        Ok(CharSeed)
+    }
+}
+
+// The character of a text of exactly one.
+fn char_of_text<D: Deserializer>(alloc: Global, text: &str) -> Result<char, D::Error>
+    ensures { Answers D.Error.fault (λ c. c) result (character_of (scalar (offer.text text.now))) }
+{
+    match only_char(text) {
+        Some(c) => Ok(c),
+        None => Err(D::Error::invalid_value(alloc, Unexpected::Str(text), "char")),
     }
 }
 

@@ -1,5 +1,6 @@
 //! Deserializers over items that are at hand.
 ghost use Rattle.std.specs.Prelude.{◌≡◌, true, false};
+ghost use Rattle.data_core.specs.Show.{shown_offer, Begins};
 ghost use Rattle.data_core.specs.Source.{source, elements};
 ghost use Rattle.data_core.specs.Sequence.{Ends, surplus};
 ghost use Rattle.data_std.specs.Items.{sources_of};
@@ -37,6 +38,13 @@ enum ElementsLevel<D: Deserializer> {
     Part(D::Seq),
 }
 
+/// The entries of a map that stands in an item of a `SeqDeserializer`, under way.
+#[derive(Drop)]
+pub struct SeqEntries<D: Deserializer> {
+    map: D::Map,
+    ghost untracked: { D.tracks ≡ false },
+}
+
 impl<D: Deserializer> Deserializer for SeqDeserializer<D> {
     type Error = D::Error;
 
@@ -46,6 +54,8 @@ impl<D: Deserializer> Deserializer for SeqDeserializer<D> {
 
     type Seq = SeqElements<D>;
 
+    type Map = SeqEntries<D>;
+
     ghost use Rattle.data_std.specs.Sequences.{source_of, sequence_of};
 
     ghost tracks = { false };
@@ -54,21 +64,13 @@ impl<D: Deserializer> Deserializer for SeqDeserializer<D> {
 
     ghost sequence = { λ s. sequence_of D.source D.sequence s.level };
 
+    ghost table = { λ m. D.table m.map };
+
     fn show(self, hint: Hint<'_>) -> Result<Shown<SeqDeserializer<D>>, D::Error> {
         let level = self.level;
         match level {
-            Level::Whole(items) => Ok(Shown::Seq(SeqElements {
-                level: ElementsLevel::Whole(Waiting::new(items)),
-            })),
-            Level::Part(d) => match d.show(hint)? {
-                Shown::Scalar(scalar) => Ok(Shown::Scalar(scalar)),
-                Shown::Some(inner) => Ok(Shown::Some(SeqDeserializer {
-                    level: Level::Part(inner),
-                })),
-                Shown::Seq(seq) => Ok(Shown::Seq(SeqElements {
-                    level: ElementsLevel::Part(seq),
-                })),
-            },
+            Level::Whole(items) => Ok(whole(items)),
+            Level::Part(d) => Ok(part(d.show(hint)?)),
         }
     }
 
@@ -112,12 +114,104 @@ impl<D: Deserializer> Deserializer for SeqDeserializer<D> {
         }
     }
 
+    #[tactic(auto, using(crate::proofs::Items::surplus_items))]
     fn end_seq(alloc: Global, seq: SeqElements<D>) -> Result<(), D::Error> {
         let level = seq.level;
         match level {
-            ElementsLevel::Whole(items) => end_of_items::<D>(alloc, items),
+            ElementsLevel::Whole(items) => end_of_items(alloc, items),
             ElementsLevel::Part(seq) => D::end_seq(alloc, seq),
         }
+    }
+
+    fn next_key(map: &mut SeqEntries<D>) -> Result<Option<SeqDeserializer<D>>, D::Error> {
+        match D::next_key(&mut map.map)? {
+            Some(key) => Ok(Some(SeqDeserializer {
+                level: Level::Part(key),
+            })),
+            None => Ok(None),
+        }
+    }
+
+    fn show_key(
+        map: &mut SeqEntries<D>,
+        key: SeqDeserializer<D>,
+        hint: Hint<'_>,
+    ) -> Result<Shown<SeqDeserializer<D>>, D::Error> {
+        let level = key.level;
+        match level {
+            Level::Whole(items) => Ok(whole(items)),
+            Level::Part(d) => Ok(part(D::show_key(&mut map.map, d, hint)?)),
+        }
+    }
+
+    fn leave_key(
+        map: &mut SeqEntries<D>,
+        held: bool,
+        failed: bool,
+        track: &mut Track,
+    ) -> Result<(), D::Error> {
+        D::leave_key(&mut map.map, held, failed, track)
+    }
+
+    fn next_value(map: &mut SeqEntries<D>) -> Result<SeqDeserializer<D>, D::Error> {
+        let value = D::next_value(&mut map.map)?;
+        Ok(SeqDeserializer {
+            level: Level::Part(value),
+        })
+    }
+
+    fn leave_value(
+        map: &mut SeqEntries<D>,
+        held: bool,
+        failed: bool,
+        track: &mut Track,
+    ) -> Result<(), D::Error> {
+        D::leave_value(&mut map.map, held, failed, track)
+    }
+
+    fn entries_left(map: &SeqEntries<D>) -> Option<usize> {
+        D::entries_left(&map.map)
+    }
+
+    fn end_map(alloc: Global, map: SeqEntries<D>) -> Result<(), D::Error> {
+        D::end_map(alloc, map.map)
+    }
+}
+
+// All items, as the elements of a sequence.
+fn whole<D: Deserializer>(items: Vec<D>) -> Shown<SeqDeserializer<D>>
+    requires { D.tracks ≡ false }
+    ensures offer { shown_offer D.Text.text D.Bytes.bytes ⟦<SeqDeserializer<D> as Deserializer>⟧.source
+        ⟦<SeqDeserializer<D> as Deserializer>⟧.sequence ⟦<SeqDeserializer<D> as Deserializer>⟧.table result
+        ≡ elements true (sources_of D.source items.items) }
+    ensures begins { Begins ⟦<SeqDeserializer<D> as Deserializer>⟧.sequence ⟦<SeqDeserializer<D> as Deserializer>⟧.table result }
+{
+    Shown::Seq(SeqElements {
+        level: ElementsLevel::Whole(Waiting::new(items)),
+    })
+}
+
+// What an item or a part of it shows.
+fn part<D: Deserializer>(shown: Shown<D>) -> Shown<SeqDeserializer<D>>
+    requires { D.tracks ≡ false }
+    ensures offer { shown_offer D.Text.text D.Bytes.bytes ⟦<SeqDeserializer<D> as Deserializer>⟧.source
+        ⟦<SeqDeserializer<D> as Deserializer>⟧.sequence ⟦<SeqDeserializer<D> as Deserializer>⟧.table result
+        ≡ shown_offer D.Text.text D.Bytes.bytes D.source D.sequence D.table shown }
+    ensures begins { Begins D.sequence D.table shown
+        → Begins ⟦<SeqDeserializer<D> as Deserializer>⟧.sequence ⟦<SeqDeserializer<D> as Deserializer>⟧.table result }
+{
+    match shown {
+        Shown::Scalar(scalar) => Shown::Scalar(scalar),
+        Shown::Some(d) => Shown::Some(SeqDeserializer {
+            level: Level::Part(d),
+        }),
+        Shown::NewtypeStruct(d) => Shown::NewtypeStruct(SeqDeserializer {
+            level: Level::Part(d),
+        }),
+        Shown::Seq(seq) => Shown::Seq(SeqElements {
+            level: ElementsLevel::Part(seq),
+        }),
+        Shown::Map(map) => Shown::Map(SeqEntries { map }),
     }
 }
 

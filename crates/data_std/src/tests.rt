@@ -1,27 +1,36 @@
-//! Types that are read from scalars and sequences of them. The wanted values are those of serde's own
-//! readers, but for what they call expected.
+//! Types that are read from scalars, sequences and maps of them. The wanted values are those of serde's
+//! own readers, but for what they call expected.
 ghost use Rattle.std.specs.Prelude.{false, string_bytes};
-ghost use Rattle.data_core.specs.Source.{source, scalar, some, end};
+ghost use Rattle.data_core.specs.Source.{source, scalar, some, newtype_struct, end, no_entries};
 ghost use Rattle.data_core.specs.Show.{scalar_view};
 
 use crate::{
-    Deserialize, Error, IgnoredAny, SeqDeserializer, SeqElements, deserialize, ignore_rest,
-    next_element,
+    Deserialize, Error, IgnoredAny, MapDeserializer, MapEntries, SeqDeserializer, SeqElements,
+    deserialize, ignore_entries, ignore_rest, next_element, next_entry,
 };
-use data_core::{Deserializer, Hint, Scalar, Shown, Track};
+use data_core::{DeError, Deserializer, Hint, Scalar, Shown, Track};
 use std::alloc::{AllocError, Global};
+use std::collections::BTreeMap;
 use std::fmt;
 use std::test::Fail;
 
-// A deserializer over one scalar or something of it, which it shows whatever is hoped for.
+// A deserializer over one scalar, something of it or a newtype of it, which it shows whatever is hoped
+// for.
 #[derive(Drop)]
 enum Item {
     Scalar(Scalar<String, Vec<u8>>),
     Some(Scalar<String, Vec<u8>>),
+    Newtype(Scalar<String, Vec<u8>>),
 }
 
 #[derive(Drop)]
 struct NoElements;
+
+// No entries, and perhaps a value that waits.
+#[derive(Drop)]
+struct NoEntries {
+    waiting: Option<Item>,
+}
 
 impl Deserializer for Item {
     type Error = Error;
@@ -32,6 +41,9 @@ impl Deserializer for Item {
 
     type Seq = NoElements;
 
+    type Map = NoEntries;
+
+    ghost use Rattle.std.specs.Prelude.{None, option_map};
     ghost use Rattle.data_core.specs.Source as spec;
     ghost use Rattle.data_std.specs.declared.tests.Item.TheVariants as item;
 
@@ -40,14 +52,28 @@ impl Deserializer for Item {
     ghost source = { λ d. elim d as (λ _. spec.Source) [
       | item.Scalar s ↦ source (λ _. scalar (scalar_view string_bytes (λ b. b.items) s))
       | item.Some s ↦ source (λ _. some (source (λ _. scalar (scalar_view string_bytes (λ b. b.items) s))))
+      | item.Newtype s ↦ source (λ _. newtype_struct (source (λ _. scalar (scalar_view string_bytes (λ b. b.items) s))))
     ] };
 
     ghost sequence = { λ _. record { left = end; taken = 0; checks = false } };
+
+    ghost table = { λ m. record {
+      left = no_entries;
+      taken = 0;
+      waiting = option_map (λ d. elim d as (λ _. spec.Source) [
+        | item.Scalar s ↦ source (λ _. scalar (scalar_view string_bytes (λ b. b.items) s))
+        | item.Some s ↦ source (λ _. some (source (λ _. scalar (scalar_view string_bytes (λ b. b.items) s))))
+        | item.Newtype s ↦ source (λ _. newtype_struct (source (λ _. scalar (scalar_view string_bytes (λ b. b.items) s))))
+      ]) m.waiting;
+      caught = None;
+      checks = false;
+    } };
 
     fn show(self, _hint: Hint<'_>) -> Result<Shown<Item>, Error> {
         match self {
             Item::Scalar(scalar) => Ok(Shown::Scalar(scalar)),
             Item::Some(scalar) => Ok(Shown::Some(Item::Scalar(scalar))),
+            Item::Newtype(scalar) => Ok(Shown::NewtypeStruct(Item::Scalar(scalar))),
         }
     }
 
@@ -75,6 +101,45 @@ impl Deserializer for Item {
     fn end_seq(_alloc: Global, _seq: NoElements) -> Result<(), Error> {
         Ok(())
     }
+
+    fn next_key(map: &mut NoEntries) -> Result<Option<Item>, Error> {
+        map.waiting = None;
+        Ok(None)
+    }
+
+    fn show_key(_map: &mut NoEntries, key: Item, hint: Hint<'_>) -> Result<Shown<Item>, Error> {
+        key.show(hint)
+    }
+
+    fn leave_key(
+        _map: &mut NoEntries,
+        _held: bool,
+        _failed: bool,
+        _track: &mut Track,
+    ) -> Result<(), Error> {
+        Ok(())
+    }
+
+    fn next_value(map: &mut NoEntries) -> Result<Item, Error> {
+        map.waiting.take().ok_or(Error::memory())
+    }
+
+    fn leave_value(
+        _map: &mut NoEntries,
+        _held: bool,
+        _failed: bool,
+        _track: &mut Track,
+    ) -> Result<(), Error> {
+        Ok(())
+    }
+
+    fn entries_left(_map: &NoEntries) -> Option<usize> {
+        Some(0)
+    }
+
+    fn end_map(_alloc: Global, _map: NoEntries) -> Result<(), Error> {
+        Ok(())
+    }
 }
 
 fn text(alloc: Global, text: &str) -> Result<Scalar<String, Vec<u8>>, AllocError> {
@@ -94,6 +159,23 @@ fn items(alloc: Global, numbers: &[u8]) -> Result<Vec<Item>, AllocError> {
     let mut items = Vec::new(alloc);
     for number in numbers {
         items.push(Item::Scalar(Scalar::U8(*number)))?;
+    }
+    Ok(items)
+}
+
+// The pairs of numbers as a map.
+fn map(alloc: Global, pairs: &[(u8, u8)]) -> Result<MapDeserializer<Item>, AllocError> {
+    Ok(MapDeserializer::new(alloc, pairs_of(alloc, pairs)?))
+}
+
+fn pairs_of(alloc: Global, pairs: &[(u8, u8)]) -> Result<Vec<(Item, Item)>, AllocError> {
+    let mut items = Vec::new(alloc);
+    for (key, value) in pairs {
+        let pair = (
+            Item::Scalar(Scalar::U8(*key)),
+            Item::Scalar(Scalar::U8(*value)),
+        );
+        items.push(pair)?;
     }
     Ok(items)
 }
@@ -190,6 +272,78 @@ fn signed_integers_keep_their_range(rt: HostRuntime) -> Result<(), Fail> {
 }
 
 #[test]
+fn wide_integers_keep_their_range(rt: HostRuntime) -> Result<(), Fail> {
+    let alloc = rt.alloc();
+    let greatest = 170141183460469231731687303715884105727;
+    let table = [
+        (read_scalar::<i128>(alloc, Scalar::I8(-1))?, "-1"),
+        (
+            read_scalar::<i128>(alloc, Scalar::U64(18446744073709551615))?,
+            "18446744073709551615",
+        ),
+        (
+            read_scalar::<i128>(alloc, Scalar::U128(greatest))?,
+            "170141183460469231731687303715884105727",
+        ),
+        (
+            read_scalar::<i128>(alloc, Scalar::U128(greatest + 1))?,
+            "invalid value: u128, expected i128",
+        ),
+        (read_scalar::<u128>(alloc, Scalar::I128(1))?, "1"),
+        (
+            read_scalar::<u128>(alloc, Scalar::U128(340282366920938463463374607431768211455))?,
+            "340282366920938463463374607431768211455",
+        ),
+        (
+            read_scalar::<u128>(alloc, Scalar::I64(-1))?,
+            "invalid value: integer `-1`, expected u128",
+        ),
+        (
+            read_scalar::<u128>(alloc, Scalar::I128(-1))?,
+            "invalid value: i128, expected u128",
+        ),
+        (
+            read_scalar::<u128>(alloc, Scalar::Bool(true))?,
+            "invalid type: boolean `true`, expected u128",
+        ),
+    ];
+    for (read, want) in table {
+        assert_eq!(rt; read.as_str(), want);
+    }
+    Ok(())
+}
+
+#[test]
+fn units_and_characters(rt: HostRuntime) -> Result<(), Fail> {
+    let alloc = rt.alloc();
+    let table = [
+        (read_scalar::<()>(alloc, Scalar::Unit)?, "()"),
+        (
+            read_scalar::<()>(alloc, Scalar::None)?,
+            "invalid type: Option value, expected unit",
+        ),
+        (read_scalar::<char>(alloc, Scalar::Char('ß'))?, "'ß'"),
+        (read_scalar::<char>(alloc, text(alloc, "ß")?)?, "'ß'"),
+        (
+            read_scalar::<char>(alloc, text(alloc, "ab")?)?,
+            "invalid value: string \"ab\", expected char",
+        ),
+        (
+            read_scalar::<char>(alloc, text(alloc, "")?)?,
+            "invalid value: string \"\", expected char",
+        ),
+        (
+            read_scalar::<char>(alloc, Scalar::U8(97))?,
+            "invalid type: integer `97`, expected char",
+        ),
+    ];
+    for (read, want) in table {
+        assert_eq!(rt; read.as_str(), want);
+    }
+    Ok(())
+}
+
+#[test]
 fn booleans_and_texts(rt: HostRuntime) -> Result<(), Fail> {
     let alloc = rt.alloc();
     let table = [
@@ -214,6 +368,26 @@ fn booleans_and_texts(rt: HostRuntime) -> Result<(), Fail> {
         (
             read_scalar::<String>(alloc, Scalar::Unit)?,
             "invalid type: unit value, expected text",
+        ),
+    ];
+    for (read, want) in table {
+        assert_eq!(rt; read.as_str(), want);
+    }
+    Ok(())
+}
+
+#[test]
+fn boxes(rt: HostRuntime) -> Result<(), Fail> {
+    let alloc = rt.alloc();
+    let table = [
+        (read_scalar::<Box<u8>>(alloc, Scalar::U64(255))?, "255"),
+        (
+            read_scalar::<Box<u8>>(alloc, Scalar::U16(256))?,
+            "invalid value: integer `256`, expected u8",
+        ),
+        (
+            read_scalar::<Box<u8>>(alloc, Scalar::Unit)?,
+            "invalid type: unit value, expected u8",
         ),
     ];
     for (read, want) in table {
@@ -301,33 +475,101 @@ fn lists_and_tuples(rt: HostRuntime) -> Result<(), Fail> {
 }
 
 #[test]
+fn maps(rt: HostRuntime) -> Result<(), Fail> {
+    let alloc = rt.alloc();
+    let table = [
+        (read::<BTreeMap<u8, u8>, _>(alloc, map(alloc, &[])?)?, "{}"),
+        (
+            read::<BTreeMap<u8, i8>, _>(alloc, map(alloc, &[(3, 4), (1, 2), (3, 5)])?)?,
+            "{1: 2, 3: 5}",
+        ),
+        (
+            read::<BTreeMap<bool, u8>, _>(alloc, map(alloc, &[(1, 2)])?)?,
+            "invalid type: integer `1`, expected bool",
+        ),
+        (
+            read::<BTreeMap<u8, i8>, _>(alloc, map(alloc, &[(1, 2), (3, 200)])?)?,
+            "invalid value: integer `200`, expected i8",
+        ),
+        (
+            read_scalar::<BTreeMap<u8, u8>>(alloc, Scalar::Unit)?,
+            "invalid type: unit value, expected map",
+        ),
+    ];
+    for (read, want) in table {
+        assert_eq!(rt; read.as_str(), want);
+    }
+    Ok(())
+}
+
+#[test]
+fn pairs_as_elements(rt: HostRuntime) -> Result<(), Fail> {
+    let alloc = rt.alloc();
+    let two = [(3, 4), (1, 2)];
+    let table = [
+        (
+            read::<Vec<(u8, u8)>, _>(alloc, map(alloc, &two)?)?,
+            "[(3, 4), (1, 2)]",
+        ),
+        (
+            read::<(Vec<u8>, (u8, u8)), _>(alloc, map(alloc, &two)?)?,
+            "([3, 4], (1, 2))",
+        ),
+        (
+            read::<((u8, u8),), _>(alloc, map(alloc, &two)?)?,
+            "invalid length 2, expected 1",
+        ),
+        (
+            read::<Vec<(bool, u8, u8)>, _>(alloc, map(alloc, &two)?)?,
+            "invalid length 2, expected 3",
+        ),
+        (
+            read::<Vec<BTreeMap<u8, u8>>, _>(alloc, map(alloc, &two)?)?,
+            "invalid type: sequence, expected map",
+        ),
+    ];
+    for (read, want) in table {
+        assert_eq!(rt; read.as_str(), want);
+    }
+    Ok(())
+}
+
+#[test]
 fn what_is_ignored(rt: HostRuntime) -> Result<(), Fail> {
     let alloc = rt.alloc();
     let mut track = Track::new(alloc);
     assert!(rt; deserialize::<IgnoredAny, _>(alloc, numbers(alloc, &[1, 2])?, &mut track).is_ok());
+    assert!(rt; deserialize::<IgnoredAny, _>(alloc, map(alloc, &[(1, 2)])?, &mut track).is_ok());
+    let newtype = Item::Newtype(Scalar::U8(1));
+    assert!(rt; deserialize::<IgnoredAny, _>(alloc, newtype, &mut track).is_ok());
     let mut elements = SeqElements::new(items(alloc, &[1, 2, 3])?);
     let first = next_element::<SeqDeserializer<Item>, u8>(alloc, &mut elements, &mut track);
     assert!(rt; matches!(first, Ok(Some(1))));
     assert!(rt; ignore_rest::<SeqDeserializer<Item>>(alloc, &mut elements, &mut track).is_ok());
     assert!(rt; elements.end(alloc).is_ok());
+    let mut entries = MapEntries::new(alloc, pairs_of(alloc, &[(1, 2), (3, 4)])?);
+    let first = next_entry::<MapDeserializer<Item>, u8, u8>(alloc, &mut entries, &mut track);
+    assert!(rt; matches!(first, Ok(Some((1, 2)))));
+    assert!(rt; ignore_entries::<MapDeserializer<Item>>(alloc, &mut entries, &mut track).is_ok());
+    assert!(rt; entries.end(alloc).is_ok());
     Ok(())
 }
 
 #[test]
-fn an_end_with_elements_left(rt: HostRuntime) -> Result<(), Fail> {
+fn ends_where_something_is_left(rt: HostRuntime) -> Result<(), Fail> {
     let alloc = rt.alloc();
     let mut track = Track::new(alloc);
     let mut elements = SeqElements::new(items(alloc, &[1, 2])?);
     let first = next_element::<SeqDeserializer<Item>, u8>(alloc, &mut elements, &mut track);
     assert!(rt; matches!(first, Ok(Some(1))));
-    match elements.end(alloc) {
-        Ok(()) => Err("an element was left".into()),
-        Err(error) => {
-            assert_eq!(rt;
-                error.to_string(alloc)?.as_str(),
-                "invalid length 2, expected 1"
-            );
-            Ok(())
-        }
+    let entries = MapEntries::new(alloc, pairs_of(alloc, &[(1, 2)])?);
+    let table = [
+        (elements.end(alloc), "invalid length 2, expected 1"),
+        (entries.end(alloc), "invalid length 1, expected 0"),
+    ];
+    for (end, want) in table {
+        let error = end.err().ok_or("something was left")?;
+        assert_eq!(rt; error.to_string(alloc)?.as_str(), want);
     }
+    Ok(())
 }

@@ -1,20 +1,37 @@
-use Rattle.std.proofs.Common.{◌≡◌, ◌+◌, ◌*◌, ◌≤◌}
-use Rattle.data_core.specs.Source.{count}
+use Rattle.std.proofs.Common.{◌≡◌, ◌+◌, ◌*◌, ◌≤◌, max}
+use Rattle.data_core.specs.Source.{count, count_entries}
 use Rattle.data_core.specs.Show.{shown_offer}
 use Rattle.data_core.specs.Tracking.{clear}
-use Rattle.data_std.specs.Ignored.{ignored_rest, depth, depth_of_offer, depth_of_all}
+use Rattle.data_std.specs.Ignored.{ignored_rest, ignored_entries, depth, depth_of_offer, depth_of_all, depth_of_entries, depth_of_waiting}
 use Rattle.data_std.proofs.ignored.+ignore.Given as goal
 
 abbrev pub decreases-ignore : goal.decreases-ignore
-decreases-ignore g l = 3 * depth (g.D.Deserializer.source l.d)
+decreases-ignore g l = 5 * depth (g.D.Deserializer.source l.d)
+
+abbrev pub decreases-visit_key : goal.decreases-visit_key
+decreases-visit_key g l = 5 * depth (g.D.Deserializer.source l.key)
+
+abbrev pub decreases-ignore_key : goal.decreases-ignore_key
+decreases-ignore_key g l = 5 * depth (g.D.Deserializer.source l.key) + 1
+
+abbrev pub decreases-ignore_value : goal.decreases-ignore_value
+decreases-ignore_value g l = 5 * depth_of_waiting (g.D.Deserializer.table l.map.now).waiting + 1
+
+abbrev pub decreases-ignore_entry : goal.decreases-ignore_entry
+decreases-ignore_entry g l =
+    let de = g.D.Deserializer in
+    5 * max (depth (de.source l.key)) (depth_of_waiting (de.table l.map.now).waiting) + 2
 
 abbrev pub decreases-ignore_rest : goal.decreases-ignore_rest
-decreases-ignore_rest g l = 3 * depth_of_all (g.D.Deserializer.sequence l.seq.now).left + 1
+decreases-ignore_rest g l = 5 * depth_of_all (g.D.Deserializer.sequence l.seq.now).left + 3
+
+abbrev pub decreases-ignore_entries : goal.decreases-ignore_entries
+decreases-ignore_entries g l = 5 * depth_of_entries (g.D.Deserializer.table l.map.now).left + 3
 
 abbrev pub decreases-ignore_shown : goal.decreases-ignore_shown
 decreases-ignore_shown g l =
     let de = g.D.Deserializer in
-    3 * depth_of_offer (shown_offer g.D.Text.TextLike.text g.D.Bytes.BytesLike.bytes de.source de.sequence l.shown) + 2
+    5 * depth_of_offer (shown_offer g.D.Text.TextLike.text g.D.Bytes.BytesLike.bytes de.source de.sequence de.table l.shown) + 4
 
 abbrev pub invariant-ignore_rest-elements : goal.invariant-ignore_rest-elements
 invariant-ignore_rest-elements g l =
@@ -26,3 +43,14 @@ invariant-ignore_rest-elements g l =
 
 abbrev pub decreases-ignore_rest-elements : goal.decreases-ignore_rest-elements
 decreases-ignore_rest-elements g l = count (g.D.Deserializer.sequence l.seq).left
+
+abbrev pub invariant-ignore_entries-entries : goal.invariant-ignore_entries-entries
+invariant-ignore_entries-entries g l =
+    let table = g.D.Deserializer.table in record {
+      outcome : ignored_entries (table l.initial.map).left ≡ ignored_entries (table l.map).left;
+      shallow : depth_of_entries (table l.map).left ≤ depth_of_entries (table l.initial.map).left;
+      clear : l.fn.track ≡ clear → l.track ≡ clear;
+    }
+
+abbrev pub decreases-ignore_entries-entries : goal.decreases-ignore_entries-entries
+decreases-ignore_entries-entries g l = count_entries (g.D.Deserializer.table l.map).left

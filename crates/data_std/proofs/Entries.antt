@@ -1,0 +1,84 @@
+-- The entries of a map, read one after the other.
+use Rattle.std.proofs.Common.{◌≡◌, ℕ, Bool, List, [], ◌∷◌, ◌++◌, Option, Some, None, Result, Ok, Err, refl, inl, inr}
+use Rattle.std.specs.declared.cmp.Ordering.{Ordering}
+use Rattle.std.specs.BTreeMap.{insert_entry}
+use Rattle.data_core.specs.declared.fault.Fault.{Fault}
+use Rattle.data_core.specs.declared.path.Segment.{Segment}
+use Rattle.data_core.specs.declared.path.Segment.TheVariants.{Unknown}
+use Rattle.data_core.specs.Ask.{Ask}
+use Rattle.data_core.specs.Source.{Source, Entries, no_entries, entry}
+use Rattle.data_core.specs.Table.{IsKey, IsValue, IsCaught, entry_segment, segment_of_key, rest_of_entries, value_of}
+use Rattle.data_core.specs.Tracking.{Refusal}
+use Rattle.data_core.specs.Outcome.{Outcome, given, refused, RefusedAmong, Among}
+use Rattle.data_std.specs.Pairs.{NextReads, EntriesRead, inserted}
+use Rattle.data_std.proofs.Elements.{after}
+
+-- what is among some outcomes is among more
+RefusedAmong-within : {A : Type 0} (tracks : Bool) (fault : Option Fault) (P Q : Outcome A → Type 0) (old new : Refusal)
+    → ((o : Outcome A) → P o → Q o) → RefusedAmong tracks fault P old new → RefusedAmong tracks fault Q old new
+RefusedAmong-within tracks None P Q old new within h = tt
+RefusedAmong-within tracks (Some f) P Q old new within h = (h.0, within (refused f h.0) h.1, h.2)
+
+pub Among-within : {A E : Type 0} (fault : E → Option Fault) (tracks : Bool) (r : Result A E) (P Q : Outcome A → Type 0) (old new : Refusal)
+    → ((o : Outcome A) → P o → Q o) → Among fault tracks r P old new → Among fault tracks r Q old new
+Among-within fault tracks (Ok a) P Q old new within h = (within (given a) h.0, h.1)
+Among-within fault tracks (Err e) P Q old new within h = RefusedAmong-within tracks (fault e) P Q old new within h
+
+pub IsValue-within : {A : Type 0} (segment : Segment) (reads all : Source → Outcome A → Type 0) (waiting : Option Source) → ((s : Source) (o : Outcome A) → reads s o → all s o)
+    → (o : Outcome A) → IsValue segment reads waiting o → IsValue segment all waiting o
+IsValue-within segment reads all None within o h = absurd h
+IsValue-within segment reads all (Some s) within (given a) h = within s (given a) h
+IsValue-within segment reads all (Some s) within (refused f path) h = (h.0, within s (refused f h.0) h.1, h.2)
+
+-- the segment of the next entry
+abbrev pub next_segment : Ask → Entries → Segment
+next_segment asks no_entries = Unknown
+next_segment asks (entry k v es) = segment_of_key asks k
+
+pub next_segment_caught : {K : Type 0} (asks : Ask) (key : Source → Outcome K → Type 0) (es : Entries) (x : K) (caught : Option (List ℕ))
+    → IsKey asks key es (given (Some x)) → IsCaught asks es caught → next_segment asks es ≡ entry_segment caught
+next_segment_caught asks key no_entries x caught read same = absurd (cc)
+next_segment_caught asks key (entry k v es) x caught read same = rw same refl
+
+-- the next entry, by its key and then its value
+pub NextReads-key : {K V : Type 0} (asks : Ask) (key : Source → Outcome K → Type 0) (value : Source → Outcome V → Type 0) (es : Entries) (f : Fault) (path : List Segment)
+    → IsKey asks key es (refused f path) → NextReads asks key value es (refused f path)
+NextReads-key asks key value no_entries f path h = absurd (cc)
+NextReads-key asks key value (entry k v es) f path h = inl (inl h)
+
+pub NextReads-value : {K V : Type 0} (asks : Ask) (key : Source → Outcome K → Type 0) (value : Source → Outcome V → Type 0) (es : Entries) (x : K) (f : Fault) (path : List Segment)
+    → IsKey asks key es (given (Some x)) → IsValue (next_segment asks es) value (value_of es) (refused f path) → NextReads asks key value es (refused f path)
+NextReads-value asks key value no_entries x f path read h = absurd h
+NextReads-value asks key value (entry k v es) x f path read h = inl (inr (x, read, inl h))
+
+pub NextReads-both : {K V : Type 0} (asks : Ask) (key : Source → Outcome K → Type 0) (value : Source → Outcome V → Type 0) (es : Entries) (x : K) (y : V)
+    → IsKey asks key es (given (Some x)) → IsValue (next_segment asks es) value (value_of es) (given y) → NextReads asks key value es (given (Some (x, y)))
+NextReads-both asks key value no_entries x y read h = absurd h
+NextReads-both asks key value (entry k v es) x y read h = inr ((x, y), inr (x, read, inr (y, h, refl)), refl)
+
+-- all entries, by the next one and those after it
+pub EntriesRead-more : {K V : Type 0} (asks : Ask) (key : Source → Outcome K → Type 0) (value : Source → Outcome V → Type 0) (es : Entries) (both : K × V) (o : Outcome (List (K × V)))
+    → NextReads asks key value es (given (Some both)) → EntriesRead asks key value (rest_of_entries es) o → EntriesRead asks key value es (after (both ∷ []) o)
+EntriesRead-more asks key value no_entries both o h rest = absurd (cc)
+EntriesRead-more asks key value (entry k v es) both o (inl fails) rest = absurd fails
+EntriesRead-more asks key value (entry k v es) both (given pairs) (inr read) rest =
+    let same : both ≡ read.0 = cc in inr (both, rw same read.1, inr (pairs, rest, refl))
+EntriesRead-more asks key value (entry k v es) both (refused f path) (inr read) rest =
+    let same : both ≡ read.0 = cc in inr (both, rw same read.1, inl rest)
+
+pub EntriesRead-fails : {K V : Type 0} (asks : Ask) (key : Source → Outcome K → Type 0) (value : Source → Outcome V → Type 0) (es : Entries) (f : Fault) (path : List Segment)
+    → NextReads asks key value es (refused f path) → EntriesRead asks key value es (refused f path)
+EntriesRead-fails asks key value no_entries f path h = absurd (cc)
+EntriesRead-fails asks key value (entry k v es) f path (inl h) = inl h
+EntriesRead-fails asks key value (entry k v es) f path (inr read) = absurd (cc)
+
+pub EntriesRead-ends : {K V : Type 0} (asks : Ask) (key : Source → Outcome K → Type 0) (value : Source → Outcome V → Type 0) (es : Entries)
+    → NextReads asks key value es (given None) → EntriesRead asks key value es (given [])
+EntriesRead-ends asks key value no_entries h = refl
+EntriesRead-ends asks key value (entry k v es) (inl fails) = absurd fails
+EntriesRead-ends asks key value (entry k v es) (inr read) = absurd (cc)
+
+pub inserted_push : {K V : Type 0} (cmp : K → K → Ordering) (es pairs : List (K × V)) (both : K × V)
+    → inserted cmp es (pairs ++ both ∷ []) ≡ insert_entry cmp (inserted cmp es pairs) both.0 both.1
+inserted_push cmp es [] both = refl
+inserted_push cmp es (p ∷ ps) both = inserted_push cmp (insert_entry cmp es p.0 p.1) ps both
