@@ -2,8 +2,9 @@
 ghost use Rattle.std.specs.Prelude.{◌≡◌, ◌≢◌, true, OnOk};
 ghost use Rattle.data_core.specs.Show.{shown_offer, Begins};
 ghost use Rattle.data_core.specs.Tracking.{Leaves, marked};
-ghost use Rattle.path_read.specs.Tracked.{inner_of, source_of, sequence_of};
+ghost use Rattle.path_read.specs.Tracked.{inner_of, source_of, sequence_of, table_of};
 
+use crate::map::{TrackedMap, caught_text, segment_of};
 use data_core::{DeError, Hint, Path, Segment, Shown, Track};
 use std::alloc::Global;
 
@@ -37,14 +38,20 @@ fn track_inside<D: data_core::Deserializer>(
     alloc: Global,
     shown: Shown<D>,
 ) -> Shown<Deserializer<D>>
-    ensures offer { shown_offer D.Text.text D.Bytes.bytes (source_of D.source) (sequence_of D.sequence) result
-        ≡ shown_offer D.Text.text D.Bytes.bytes D.source D.sequence shown }
-    ensures begins { Begins D.sequence shown → Begins (sequence_of D.sequence) result }
+    ensures offer { shown_offer D.Text.text D.Bytes.bytes (source_of D.source) (sequence_of D.sequence) (table_of D.table) result
+        ≡ shown_offer D.Text.text D.Bytes.bytes D.source D.sequence D.table shown }
+    ensures begins { Begins D.sequence D.table shown → Begins (sequence_of D.sequence) (table_of D.table) result }
 {
     match shown {
         Shown::Scalar(scalar) => Shown::Scalar(scalar),
         Shown::Some(inner) => Shown::Some(Deserializer { alloc, inner }),
+        Shown::NewtypeStruct(inner) => Shown::NewtypeStruct(Deserializer { alloc, inner }),
         Shown::Seq(inner) => Shown::Seq(TrackedSeq { alloc, inner }),
+        Shown::Map(inner) => Shown::Map(TrackedMap {
+            alloc,
+            inner,
+            key: None,
+        }),
     }
 }
 
@@ -84,11 +91,15 @@ impl<D: data_core::Deserializer> data_core::Deserializer for Deserializer<D> {
 
     type Seq = TrackedSeq<D>;
 
+    type Map = TrackedMap<D>;
+
     ghost tracks = { true };
 
     ghost source = { source_of D.source };
 
     ghost sequence = { sequence_of D.sequence };
+
+    ghost table = { table_of D.table };
 
     fn show(self, hint: Hint<'_>) -> Result<Shown<Deserializer<D>>, D::Error> {
         let alloc = self.alloc;
@@ -124,5 +135,75 @@ impl<D: data_core::Deserializer> data_core::Deserializer for Deserializer<D> {
 
     fn end_seq(alloc: Global, seq: TrackedSeq<D>) -> Result<(), D::Error> {
         D::end_seq(alloc, seq.inner)
+    }
+
+    fn next_key(map: &mut TrackedMap<D>) -> Result<Option<Deserializer<D>>, D::Error> {
+        let alloc = map.alloc;
+        // The text of an earlier key names neither this one nor its value.
+        map.key = None;
+        match D::next_key(&mut map.inner)? {
+            Some(inner) => Ok(Some(Deserializer { alloc, inner })),
+            None => Ok(None),
+        }
+    }
+
+    fn show_key(
+        map: &mut TrackedMap<D>,
+        key: Deserializer<D>,
+        hint: Hint<'_>,
+    ) -> Result<Shown<Deserializer<D>>, D::Error> {
+        let alloc = map.alloc;
+        // What shows no text, or fails, leaves none of an earlier key.
+        drop(map.key.take());
+        let shown = D::show_key(&mut map.inner, key.inner, hint)?;
+        if let Shown::Scalar(scalar) = &shown {
+            match caught_text(alloc, scalar) {
+                Ok(text) => map.key = text,
+                Err(_) => return Err(D::Error::memory()),
+            }
+        }
+        Ok(track_inside(alloc, shown))
+    }
+
+    fn leave_key(
+        map: &mut TrackedMap<D>,
+        held: bool,
+        failed: bool,
+        track: &mut Track,
+    ) -> Result<(), D::Error> {
+        if !held {
+            track.drop_path();
+        }
+        // Of a key that was read the text stays, for its value.
+        let segment = if failed {
+            segment_of(map.key.take())
+        } else {
+            Segment::Unknown
+        };
+        leave(map.alloc, segment, held, failed, track)
+    }
+
+    fn next_value(map: &mut TrackedMap<D>) -> Result<Deserializer<D>, D::Error> {
+        let alloc = map.alloc;
+        let inner = D::next_value(&mut map.inner)?;
+        Ok(Deserializer { alloc, inner })
+    }
+
+    fn leave_value(
+        map: &mut TrackedMap<D>,
+        held: bool,
+        failed: bool,
+        track: &mut Track,
+    ) -> Result<(), D::Error> {
+        let segment = segment_of(map.key.take());
+        leave(map.alloc, segment, held, failed, track)
+    }
+
+    fn entries_left(map: &TrackedMap<D>) -> Option<usize> {
+        D::entries_left(&map.inner)
+    }
+
+    fn end_map(alloc: Global, map: TrackedMap<D>) -> Result<(), D::Error> {
+        D::end_map(alloc, map.inner)
     }
 }

@@ -2,5 +2,7 @@
 #![tactic(auto)]
 
 mod de;
+mod map;
 
 pub use de::{Deserializer, TrackedSeq};
+pub use map::TrackedMap;
