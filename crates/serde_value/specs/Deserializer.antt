@@ -1,13 +1,15 @@
 -- What a deserializer over a tree stands for.
-use Rattle.std.specs.Prelude.{List, map, true}
+use Rattle.std.specs.Prelude.{List, map, true, false, None, option_map}
 use Rattle.std.specs.Vec.Iter.{into_iter_items}
-use Rattle.data_core.specs.Node.{nodes_of, of_node, of_nodes}
+use Rattle.data_core.specs.Node.{nodes_of, pairs_of, of_node, of_nodes, of_pairs}
 use Rattle.data_core.specs.Source.{Source}
 use Rattle.data_core.specs.Sequence.{Sequence}
-use Rattle.serde_value.specs.View.{node_view}
+use Rattle.data_core.specs.Table.{Table}
+use Rattle.serde_value.specs.View.{node_view, pair_view}
 use Rattle.serde_value.specs.declared.value.Value.{Value}
 use Rattle.serde_value.specs.declared.de.ValueDeserializer.{ValueDeserializer}
 use Rattle.serde_value.specs.declared.de.ValueElements.{ValueElements}
+use Rattle.serde_value.specs.declared.de.ValueEntries.{ValueEntries}
 
 -- the tree
 abbrev pub value_of : {E : Type 0} → ValueDeserializer E → Value
@@ -24,3 +26,18 @@ values_left s = into_iter_items s.rest
 -- a sequence of trees, under way; its end is checked
 abbrev pub sequence_of : {E : Type 0} → ValueElements E → Sequence
 sequence_of s = record { left = of_nodes (nodes_of (map node_view (values_left s))); taken = s.taken; checks = true }
+
+-- the pairs of a map that are left
+abbrev pub pairs_left : {E : Type 0} → ValueEntries E → List (Value × Value)
+pairs_left m = into_iter_items m.rest
+
+-- a map of trees, under way; its end is not checked, and no text of a key is kept
+abbrev pub table_of : {E : Type 0} → ValueEntries E → Table
+table_of m =
+    record {
+      left = of_pairs (pairs_of (map pair_view (pairs_left m)));
+      taken = m.taken;
+      waiting = option_map (λ v. of_node (node_view v)) m.waiting;
+      caught = None;
+      checks = false;
+    }

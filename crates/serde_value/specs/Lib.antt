@@ -4,3 +4,6 @@ pub mod Deserializer
 pub mod Unexpected
 pub mod ErrorView
 pub mod Report
+pub mod Fed
+pub mod Reading
+pub mod Captured

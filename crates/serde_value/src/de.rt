@@ -1,13 +1,14 @@
 //! Deserializers over trees.
-ghost use Rattle.std.specs.Prelude.{◌≡◌, ◌+◌, ◌^◌, true, false, Some, IsOk, OnErr, string_bytes};
-ghost use Rattle.data_core.specs.Node.{of_node, of_nodes, nodes_of, plain, wrapped};
-ghost use Rattle.data_core.specs.Source.{count, resolved};
+ghost use Rattle.std.specs.Prelude.{◌≡◌, ◌+◌, ◌^◌, true, false, Some, None, IsOk, IsSome, OnErr, OnOk, string_bytes};
+ghost use Rattle.data_core.specs.Node.{of_node, of_nodes, of_pairs, nodes_of, pairs_of, plain, wrapped, inside};
+ghost use Rattle.data_core.specs.Source.{count, count_entries, resolved};
 ghost use Rattle.data_core.specs.Sequence.{Takes, Ends, surplus};
+ghost use Rattle.data_core.specs.Table.{TakesKey, TakesValue, value_taken};
 ghost use Rattle.data_core.specs.Show.{shown_offer, Begins};
 ghost use Rattle.serde_value.specs.View.{node_view};
-ghost use Rattle.serde_value.specs.Deserializer.{value_of, source_of, sequence_of};
+ghost use Rattle.serde_value.specs.Deserializer.{value_of, source_of, sequence_of, table_of};
 
-use crate::value::{Held, Items, Value};
+use crate::value::{Held, Items, Value, ValueMap};
 use data_core::{DeError, Deserializer, Hint, Scalar, Shown, Track};
 use std::alloc::Global;
 use std::marker::PhantomData;
@@ -67,11 +68,39 @@ impl<E: DeError> ValueElements<E> {
     }
 }
 
+/// The entries of a map that are left, the value whose key was taken last, and how many keys were
+/// taken: serde's `MapDeserializer` over trees. They are taken by rising key, and none is copied.
+/// Dropping deep trees recurses.
+#[derive(Drop)]
+pub struct ValueEntries<E: DeError> {
+    alloc: Global,
+    rest: IntoIter<(Value, Value)>,
+    waiting: Option<Value>,
+    taken: usize,
+    error: PhantomData<E>,
+}
+
+impl<E: DeError> ValueEntries<E> {
+    // A whole map, of which none was taken.
+    fn new(alloc: Global, map: ValueMap) -> ValueEntries<E>
+        ensures left { (table_of result).left ≡ of_pairs (pairs_of map) }
+        ensures taken { (table_of result).taken ≡ 0 }
+    {
+        ValueEntries {
+            alloc,
+            rest: map.into_vec().into_iter(),
+            waiting: None,
+            taken: 0,
+            error: PhantomData,
+        }
+    }
+}
+
 // A tree as it is.
 fn show_plain<E: DeError>(alloc: Global, value: Value) -> Shown<ValueDeserializer<E>>
-    ensures offer { shown_offer string_bytes (λ b. b.items) source_of sequence_of result
+    ensures offer { shown_offer string_bytes (λ b. b.items) source_of sequence_of table_of result
         ≡ plain (node_view value) }
-    ensures begins { Begins sequence_of result }
+    ensures begins { Begins sequence_of table_of result }
 {
     match value {
         Value::Bool(b) => Shown::Scalar(Scalar::Bool(b)),
@@ -87,16 +116,20 @@ fn show_plain<E: DeError>(alloc: Global, value: Value) -> Shown<ValueDeserialize
         Value::String(text) => Shown::Scalar(Scalar::Text(text)),
         Value::Unit => Shown::Scalar(Scalar::Unit),
         Value::Option(held) => show_held(alloc, held),
+        Value::Newtype(held) => {
+            Shown::NewtypeStruct(ValueDeserializer::new(alloc, held.into_inner()))
+        }
         Value::Seq(items) => Shown::Seq(ValueElements::new(alloc, items)),
+        Value::Map(map) => Shown::Map(ValueEntries::new(alloc, map)),
         Value::Bytes(bytes) => Shown::Scalar(Scalar::Bytes(bytes)),
     }
 }
 
 // A tree as an option: nothing and a unit are nothing, and any other tree is a value of itself.
 fn show_option<E: DeError>(alloc: Global, value: Value) -> Shown<ValueDeserializer<E>>
-    ensures offer { shown_offer string_bytes (λ b. b.items) source_of sequence_of result
+    ensures offer { shown_offer string_bytes (λ b. b.items) source_of sequence_of table_of result
         ≡ resolved (of_node (node_view value)) (wrapped (node_view value)) }
-    ensures begins { Begins sequence_of result }
+    ensures begins { Begins sequence_of table_of result }
 {
     match value {
         Value::Unit => Shown::Scalar(Scalar::Unit),
@@ -105,11 +138,25 @@ fn show_option<E: DeError>(alloc: Global, value: Value) -> Shown<ValueDeserializ
     }
 }
 
+// A tree as a newtype: a newtype is what it holds, and any other tree holds itself.
+fn show_newtype<E: DeError>(alloc: Global, value: Value) -> Shown<ValueDeserializer<E>>
+    ensures offer { shown_offer string_bytes (λ b. b.items) source_of sequence_of table_of result
+        ≡ resolved (of_node (node_view value)) (inside (node_view value)) }
+    ensures begins { Begins sequence_of table_of result }
+{
+    match value {
+        Value::Newtype(held) => {
+            Shown::NewtypeStruct(ValueDeserializer::new(alloc, held.into_inner()))
+        }
+        other => Shown::NewtypeStruct(ValueDeserializer::new(alloc, other)),
+    }
+}
+
 // An option, and what it holds.
 fn show_held<E: DeError>(alloc: Global, held: Option<Held>) -> Shown<ValueDeserializer<E>>
-    ensures offer { shown_offer string_bytes (λ b. b.items) source_of sequence_of result
+    ensures offer { shown_offer string_bytes (λ b. b.items) source_of sequence_of table_of result
         ≡ plain (node_view (Value.Option held)) }
-    ensures begins { Begins sequence_of result }
+    ensures begins { Begins sequence_of table_of result }
 {
     match held {
         Some(held) => Shown::Some(ValueDeserializer::new(alloc, held.into_inner())),
@@ -126,11 +173,15 @@ impl<E: DeError> Deserializer for ValueDeserializer<E> {
 
     type Seq = ValueElements<E>;
 
+    type Map = ValueEntries<E>;
+
     ghost tracks = { false };
 
     ghost source = { source_of };
 
     ghost sequence = { sequence_of };
+
+    ghost table = { table_of };
 
     fn show(self, hint: Hint<'_>) -> Result<Shown<ValueDeserializer<E>>, E> {
         match hint {
@@ -139,6 +190,7 @@ impl<E: DeError> Deserializer for ValueDeserializer<E> {
                 "integers of 128 bits are not supported",
             )),
             Hint::Option => Ok(show_option(self.alloc, self.value)),
+            Hint::NewtypeStruct(_) => Ok(show_newtype(self.alloc, self.value)),
             _ => Ok(show_plain(self.alloc, self.value)),
         }
     }
@@ -194,6 +246,73 @@ impl<E: DeError> Deserializer for ValueDeserializer<E> {
             Err(_) => Err(E::memory()),
         }
     }
+
+    fn next_key(map: &mut ValueEntries<E>) -> Result<Option<ValueDeserializer<E>>, E>
+        ensures takes { TakesKey source_of E.fault result (table_of map.old) (table_of map.new) }
+        ensures full { OnErr result ((table_of map.old).taken + 1 ≡ 2 ^ 64) }
+    {
+        map.waiting = None;
+        let Some((key, value)) = map.rest.next() else {
+            return Ok(None);
+        };
+        let Some(taken) = map.taken.checked_add(1) else {
+            return Err(E::memory());
+        };
+        map.taken = taken;
+        map.waiting = Some(value);
+        Ok(Some(ValueDeserializer::new(map.alloc, key)))
+    }
+
+    fn show_key(
+        _map: &mut ValueEntries<E>,
+        key: ValueDeserializer<E>,
+        hint: Hint<'_>,
+    ) -> Result<Shown<ValueDeserializer<E>>, E> {
+        key.show(hint)
+    }
+
+    fn leave_key(
+        _map: &mut ValueEntries<E>,
+        _held: bool,
+        _failed: bool,
+        _track: &mut Track,
+    ) -> Result<(), E> {
+        Ok(())
+    }
+
+    fn next_value(map: &mut ValueEntries<E>) -> Result<ValueDeserializer<E>, E>
+        requires { IsSome (table_of map.old).waiting }
+        ensures takes { TakesValue source_of E.fault result (table_of map.old).waiting }
+        ensures table { OnOk result (table_of map.new ≡ value_taken (table_of map.old)) }
+        ensures given { IsOk result }
+    {
+        match map.waiting.take() {
+            Some(value) => Ok(ValueDeserializer::new(map.alloc, value)),
+            None => Err(E::memory()),
+        }
+    }
+
+    fn leave_value(
+        _map: &mut ValueEntries<E>,
+        _held: bool,
+        _failed: bool,
+        _track: &mut Track,
+    ) -> Result<(), E> {
+        Ok(())
+    }
+
+    #[tactic(auto, using(crate::proofs::Elements::count_of_pairs))]
+    fn entries_left(map: &ValueEntries<E>) -> Option<usize>
+        ensures { result ≡ Some (count_entries (table_of map.now).left) }
+    {
+        Some(map.rest.len())
+    }
+
+    fn end_map(_alloc: Global, _map: ValueEntries<E>) -> Result<(), E>
+        ensures { IsOk result }
+    {
+        Ok(())
+    }
 }
 
 #[cfg(test)]
@@ -215,7 +334,23 @@ mod tests {
         Ok(Value::Seq(Items::from_vec(items)))
     }
 
-    fn trees(alloc: Global) -> Result<[(Value, &'static str); 16], AllocError> {
+    fn newtype(alloc: Global, value: Value) -> Result<Value, AllocError> {
+        let inner = Box::new(alloc, value)?;
+        Ok(Value::Newtype(Held::from_box(inner)))
+    }
+
+    // A map of 1 to a unit and of 2 to a boolean.
+    fn map(alloc: Global) -> Result<Value, AllocError> {
+        let mut map = ValueMap::new(alloc);
+        for (key, value) in [(2, Value::Bool(true)), (1, Value::Unit)] {
+            if map.insert(Value::U8(key), value).is_err() {
+                return Err(AllocError);
+            }
+        }
+        Ok(Value::Map(map))
+    }
+
+    fn trees(alloc: Global) -> Result<[(Value, &'static str); 18], AllocError> {
         Ok([
             (Value::Bool(true), "bool true"),
             (Value::U8(1), "u8 1"),
@@ -231,17 +366,21 @@ mod tests {
             (Value::Unit, "unit"),
             (Value::Option(None), "none"),
             (some(alloc, Value::U8(5))?, "some u8 5"),
+            (newtype(alloc, Value::U8(6))?, "newtype u8 6"),
             (two(alloc)?, "2 elements"),
+            (map(alloc)?, "2 entries"),
             (Value::Bytes(Vec::from_slice(alloc, b"b")?), "bytes [98]"),
         ])
     }
 
-    fn options(alloc: Global) -> Result<[(Value, &'static str); 5], AllocError> {
+    fn options(alloc: Global) -> Result<[(Value, &'static str); 7], AllocError> {
         Ok([
             (Value::Option(None), "none"),
             (some(alloc, Value::U8(5))?, "some u8 5"),
             (Value::U8(5), "some u8 5"),
+            (newtype(alloc, Value::U8(6))?, "some newtype"),
             (two(alloc)?, "some 2 trees"),
+            (map(alloc)?, "some 2 pairs"),
             (Value::Unit, "unit"),
         ])
     }
@@ -271,12 +410,22 @@ mod tests {
             Shown::Scalar(scalar) => scalar_text(alloc, scalar),
             Shown::Some(inside) => match inside.into_value() {
                 Value::U8(n) => format!(in alloc; "some u8 {n}"),
+                Value::Newtype(_) => String::from_str(alloc, "some newtype"),
                 Value::Seq(items) => format!(in alloc; "some {} trees", items.len()),
+                Value::Map(map) => format!(in alloc; "some {} pairs", map.len()),
                 _ => String::from_str(alloc, "some other tree"),
+            },
+            Shown::NewtypeStruct(inside) => match inside.into_value() {
+                Value::U8(n) => format!(in alloc; "newtype u8 {n}"),
+                _ => String::from_str(alloc, "newtype of another tree"),
             },
             Shown::Seq(elements) => match Trees::elements_left(&elements) {
                 Some(left) => format!(in alloc; "{left} elements"),
                 None => String::from_str(alloc, "some elements"),
+            },
+            Shown::Map(entries) => match Trees::entries_left(&entries) {
+                Some(left) => format!(in alloc; "{left} entries"),
+                None => String::from_str(alloc, "some entries"),
             },
         }
     }
@@ -376,6 +525,43 @@ mod tests {
         assert!(rt; Trees::leave_element(&mut elements, false, true, &mut track).is_ok());
         assert!(rt; !track.holds());
         assert_eq!(rt; Trees::elements_left(&elements), Some(1));
+        Ok(())
+    }
+
+    #[test]
+    fn entries_are_taken_in_order(rt: HostRuntime) -> Result<(), Fail> {
+        for hint in [Hint::Any, Hint::Map] {
+            let Ok(Shown::Map(mut entries)) = Trees::new(rt.alloc(), map(rt.alloc())?).show(hint)
+            else {
+                panic!(rt; "no entries");
+            };
+            assert_eq!(rt; Trees::entries_left(&entries), Some(2));
+            let Ok(Some(key)) = Trees::next_key(&mut entries) else {
+                panic!(rt; "no first key");
+            };
+            assert!(rt; matches!(key.into_value(), Value::U8(1)));
+            assert_eq!(rt; Trees::entries_left(&entries), Some(1));
+            let Ok(Some(key)) = Trees::next_key(&mut entries) else {
+                panic!(rt; "no second key");
+            };
+            assert!(rt; matches!(key.into_value(), Value::U8(2)));
+            let Ok(value) = Trees::next_value(&mut entries) else {
+                panic!(rt; "no second value");
+            };
+            assert!(rt; matches!(value.into_value(), Value::Bool(true)));
+            assert_eq!(rt; Trees::entries_left(&entries), Some(0));
+            assert!(rt; matches!(Trees::next_key(&mut entries), Ok(None)));
+            assert!(rt; Trees::end_map(rt.alloc(), entries).is_ok());
+        }
+        Ok(())
+    }
+
+    #[test]
+    fn entries_that_are_left_are_passed_over(rt: HostRuntime) -> Result<(), Fail> {
+        match Trees::new(rt.alloc(), map(rt.alloc())?).show(Hint::Map) {
+            Ok(Shown::Map(entries)) => assert!(rt; Trees::end_map(rt.alloc(), entries).is_ok()),
+            _ => panic!(rt; "no entries"),
+        }
         Ok(())
     }
 

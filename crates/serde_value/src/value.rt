@@ -1,10 +1,8 @@
 //! Trees of values.
-ghost use Rattle.std.specs.Prelude.{◌≡◌, ◌↔◌, IsTrue, [], length, map};
-ghost use Rattle.serde_value.specs.View.{node_view};
-
 use std::marker::Model;
 
-/// A tree that captures a value: serde_value's `Value`, without floats.
+/// A tree that captures a value: serde_value's `Value`, without floats. Comparing, copying, hashing and
+/// dropping it recurse as deep as the tree.
 #[cycle(value)]
 #[derive(Drop)]
 pub enum Value {
@@ -21,7 +19,9 @@ pub enum Value {
     String(String),
     Unit,
     Option(Option<Held>),
+    Newtype(Held),
     Seq(Items),
+    Map(ValueMap),
     Bytes(Vec<u8>),
 }
 
@@ -37,6 +37,14 @@ pub struct Held {
 #[derive(Drop)]
 pub struct Items {
     pub(crate) items: Vec<Value>,
+}
+
+/// Pairs of trees by rising key, where serde_value's `Value::Map` has a `BTreeMap`. Dropping deep
+/// trees recurses.
+#[cycle(value)]
+#[derive(Drop)]
+pub struct ValueMap {
+    pub(crate) pairs: Vec<(Value, Value)>,
 }
 
 impl Model for Held {
@@ -83,96 +91,29 @@ impl Model for Items {
     ghost size_decreases = { λ s i. omega (arith, most≤depth s.items.items) };
 }
 
-impl Held {
-    /// The tree in a box, held. Takes no memory.
-    pub fn from_box(inner: Box<Value>) -> Held
-        ensures { result ≡ node_view inner.value }
-    {
-        Held { inner }
-    }
+impl Model for ValueMap {
+    ghost use Rattle.std.specs.Prelude.{List, map};
+    ghost use Rattle.std.specs.Coded.{coded_list, coded×};
+    ghost use Rattle.data_core.specs.Node.{Node, pairs_of};
+    ghost use Rattle.data_core.specs.NodeCode.{coded_node};
 
-    /// The tree, still in its box. Takes no memory.
-    pub fn into_box(self) -> Box<Value>
-        ensures { node_view result.value ≡ self }
-    {
-        self.inner
-    }
+    ghost Value = { List (Node × Node) };
 
-    /// The tree. Takes no memory.
-    pub fn into_inner(self) -> Value
-        ensures { node_view result ≡ self }
-    {
-        Box::into_inner(self.inner)
-    }
+    ghost coded = { coded_list (coded× coded_node coded_node) };
 
-    /// The tree, lent.
-    pub fn get(&self) -> &Value
-        ensures { node_view result.now ≡ self.now }
-    {
-        &self.inner
-    }
-}
+    ghost use Rattle.data_core.specs.Depth.{depth_of_pairs};
+    ghost use Rattle.data_core.specs.Order.{node_order};
+    ghost use Rattle.data_core.specs.Pairs.{Rises};
+    ghost use Rattle.serde_value.specs.View.{pair_view};
 
-impl Items {
-    /// The trees of a list. Takes no memory.
-    pub fn from_vec(items: Vec<Value>) -> Items
-        ensures { result ≡ map node_view items.items }
-    {
-        Items { items }
-    }
+    ghost view = { λ m. map pair_view m.pairs.items };
 
-    /// The trees, as the list that they were made of. Takes no memory.
-    pub fn into_vec(self) -> Vec<Value>
-        ensures { map node_view result.items ≡ self }
-    {
-        self.items
-    }
+    ghost invariant = { λ m. Rises node_order (map pair_view m.pairs.items) };
 
-    /// The trees, lent.
-    pub fn as_slice(&self) -> &[Value]
-        ensures { map node_view result.now ≡ self.now }
-    {
-        self.items.as_slice()
-    }
+    ghost size = { λ ps. depth_of_pairs (pairs_of ps) };
 
-    /// How many trees there are.
-    pub fn len(&self) -> usize
-        ensures { result ≡ length self.now }
-    {
-        self.items.len()
-    }
+    ghost use Rattle.std.proofs.Common.{arith};
+    ghost use Rattle.serde_value.specs.Sizes.{most≤depth_of_pairs};
 
-    /// Whether there is no tree.
-    pub fn is_empty(&self) -> bool
-        ensures { IsTrue result ↔ (self.now ≡ []) }
-    {
-        self.items.is_empty()
-    }
-}
-
-#[cfg(test)]
-mod tests {
-    use super::*;
-    use std::test::Fail;
-
-    #[test]
-    fn a_held_tree_comes_back(rt: HostRuntime) -> Result<(), Fail> {
-        let held = Held::from_box(Box::new(rt.alloc(), Value::U8(7))?);
-        assert!(rt; matches!(held.get(), Value::U8(7)));
-        let held = Held::from_box(held.into_box());
-        assert!(rt; matches!(held.into_inner(), Value::U8(7)));
-        Ok(())
-    }
-
-    #[test]
-    fn items_come_back(rt: HostRuntime) -> Result<(), Fail> {
-        let items = Items::from_vec(vec![in rt.alloc(); Value::U8(7), Value::Unit]?);
-        assert_eq!(rt; items.len(), 2);
-        assert!(rt; !items.is_empty());
-        assert!(rt; matches!(items.as_slice(), [Value::U8(7), Value::Unit]));
-        let items = items.into_vec();
-        assert!(rt; matches!(items.as_slice(), [Value::U8(7), Value::Unit]));
-        assert!(rt; Items::from_vec(Vec::new(rt.alloc())).is_empty());
-        Ok(())
-    }
+    ghost size_decreases = { λ m i. omega (arith, most≤depth_of_pairs m.pairs.items) };
 }

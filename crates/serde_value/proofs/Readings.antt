@@ -1,0 +1,16 @@
+-- What a reader answered, without the track.
+use Rattle.std.proofs.Common.{Option, None, Some, Result, Ok, Err, Bool}
+use Rattle.data_core.specs.declared.fault.Fault.{Fault}
+use Rattle.data_core.specs.Tracking.{Refusal}
+use Rattle.data_core.specs.Outcome.{Outcome, Among, RefusedAmong}
+use Rattle.serde_value.specs.ErrorView.{fault_of}
+use Rattle.serde_value.specs.Reading.{FaultAmong, ReadsAmong}
+use Rattle.serde_value.specs.declared.error.DeserializerError.{DeserializerError}
+
+fault_among : {A : Type 0} (tracks : Bool) (f : Option Fault) (is_outcome : Outcome A → Type 0) (old new : Refusal) → RefusedAmong tracks f is_outcome old new → FaultAmong f is_outcome
+fault_among tracks None is_outcome old new h = tt
+fault_among tracks (Some f) is_outcome old new h = (h.0, h.1)
+
+pub reads_among : {A : Type 0} (tracks : Bool) (r : Result A DeserializerError) (is_outcome : Outcome A → Type 0) (old new : Refusal) → Among fault_of tracks r is_outcome old new → ReadsAmong r is_outcome
+reads_among tracks (Ok a) is_outcome old new h = h.0
+reads_among tracks (Err e) is_outcome old new h = fault_among tracks (fault_of e) is_outcome old new h

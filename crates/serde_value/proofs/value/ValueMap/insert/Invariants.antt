@@ -1,0 +1,4 @@
+use Rattle.serde_value.proofs.value.ValueMap.insert.Given as goal
+
+abbrev pub ghosts-insert_from : goal.ghosts-insert_from
+ghosts-insert_from a = record { name = a.blank.name; parts = a.blank.parts }

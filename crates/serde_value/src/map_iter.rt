@@ -1,0 +1,101 @@
+//! The pairs of a map, one after another.
+ghost use Rattle.std.specs.Prelude.{◌≡◌, IfOk, map};
+ghost use Rattle.std.specs.Iterator.{YieldsFirstBy, YieldsLastBy, item_count};
+ghost use Rattle.serde_value.specs.View.{node_view};
+
+use crate::value::{Value, ValueMap};
+use std::iter::FusedIterator;
+use std::marker::Model;
+
+/// The pairs of a map from either end, each once: by rising key from the front. It stands for the
+/// `Iter` of the `BTreeMap` in serde_value's `Value::Map`.
+#[derive(Drop)]
+pub struct ValueMapIter<'a> {
+    pairs: &'a [(Value, Value)],
+}
+
+// The pairs that are left.
+impl<'a> Model for ValueMapIter<'a> {
+    ghost use Rattle.std.specs.Prelude.{List, map};
+    ghost use Rattle.std.specs.Coded.{coded_list, coded×};
+    ghost use Rattle.data_core.specs.Node.{Node};
+    ghost use Rattle.data_core.specs.NodeCode.{coded_node};
+    ghost use Rattle.serde_value.specs.View.{pair_view};
+
+    ghost Value = { List (Node × Node) };
+
+    ghost coded = { coded_list (coded× coded_node coded_node) };
+
+    ghost view = { λ s. map pair_view s.pairs.now };
+}
+
+impl<'a> ValueMapIter<'a> {
+    pub(crate) fn new(map: &'a ValueMap) -> ValueMapIter<'a>
+        ensures { result ≡ map.now }
+    {
+        ValueMapIter {
+            pairs: map.as_slice(),
+        }
+    }
+}
+
+impl<'a> Iterator for ValueMapIter<'a> {
+    type Item = (&'a Value, &'a Value);
+
+    ghost next_gives = { YieldsFirstBy (λ p. (node_view p.0.now, node_view p.1.now)) (λ left. left) };
+
+    ghost remaining = { item_count (λ left. left) };
+
+    fn next(&mut self) -> Option<(&'a Value, &'a Value)> {
+        let (first, rest) = self.pairs.split_first()?;
+        self.pairs = rest;
+        Some((&first.0, &first.1))
+    }
+
+    fn size_hint(&self) -> (usize, Option<usize>) {
+        let len = self.pairs.len();
+        (len, Some(len))
+    }
+}
+
+impl<'a> DoubleEndedIterator for ValueMapIter<'a> {
+    ghost next_back_gives = { YieldsLastBy (λ p. (node_view p.0.now, node_view p.1.now)) (λ left. left) };
+
+    fn next_back(&mut self) -> Option<(&'a Value, &'a Value)> {
+        let (last, rest) = self.pairs.split_last()?;
+        self.pairs = rest;
+        Some((&last.0, &last.1))
+    }
+}
+
+impl ExactSizeIterator for ValueMapIter<'_> {
+    fn len(&self) -> usize {
+        self.pairs.len()
+    }
+}
+
+impl FusedIterator for ValueMapIter<'_> {}
+
+#[cfg(test)]
+mod tests {
+    use super::*;
+    use std::test::Fail;
+
+    #[test]
+    fn from_both_ends(rt: HostRuntime) -> Result<(), Fail> {
+        let mut map = ValueMap::new(rt.alloc());
+        for n in [7, 5, 6] {
+            map.insert(Value::U8(n), Value::U16(u16::from(n)))
+                .ok()
+                .ok_or("no memory")?;
+        }
+        let mut pairs = map.iter();
+        assert_eq!(rt; pairs.len(), 3);
+        assert_eq!(rt; pairs.size_hint(), (3, Some(3)));
+        assert!(rt; matches!(pairs.next(), Some((Value::U8(5), Value::U16(5)))));
+        assert!(rt; matches!(pairs.next_back(), Some((Value::U8(7), Value::U16(7)))));
+        assert!(rt; matches!(pairs.next(), Some((Value::U8(6), Value::U16(6)))));
+        assert!(rt; pairs.next_back().is_none());
+        Ok(())
+    }
+}

@@ -1,0 +1,47 @@
+//! The reading of trees.
+ghost use Rattle.data_core.specs.Node.{of_node};
+ghost use Rattle.data_core.specs.Source.{offer_of};
+ghost use Rattle.serde_value.specs.Reading.{ReadsAmong};
+ghost use Rattle.serde_value.specs.View.{node_view};
+
+use crate::de::ValueDeserializer;
+use crate::error::DeserializerError;
+use crate::value::Value;
+use data_core::Track;
+use data_std::Deserialize;
+use std::alloc::Global;
+
+impl Value {
+    /// Reads a value of a type from the tree: serde_value's `Value::deserialize_into`. No path is kept
+    /// of a refusal.
+    #[tactic(auto, using(crate::proofs::Readings::reads_among))]
+    pub fn deserialize_into<T: Deserialize>(self, alloc: Global) -> Result<T, DeserializerError>
+        ensures { ReadsAmong result (T.reads (offer_of (of_node (node_view self)) T.asks)) }
+    {
+        let mut track = Track::new(alloc);
+        let d = ValueDeserializer::<DeserializerError>::new(alloc, self);
+        data_std::deserialize(alloc, d, &mut track)
+    }
+}
+
+#[cfg(test)]
+mod tests {
+    use super::*;
+    use crate::Items;
+    use std::test::Fail;
+
+    #[test]
+    fn a_tree_is_read_as_a_type(rt: HostRuntime) -> Result<(), Fail> {
+        let alloc = rt.alloc();
+        let items = vec![in alloc; Value::U8(1), Value::Option(None), Value::U16(7)]?;
+        match Value::Seq(Items::from_vec(items)).deserialize_into::<Vec<Option<u64>>>(alloc) {
+            Ok(list) => assert!(rt; matches!(list.as_slice(), [Some(1), None, Some(7)])),
+            Err(error) => panic!(rt; "{error}"),
+        }
+        match Value::Bool(true).deserialize_into::<Option<u64>>(alloc) {
+            Ok(_) => panic!(rt; "a boolean is read as an integer"),
+            Err(error) => assert!(rt; matches!(error, DeserializerError::InvalidType(_, _))),
+        }
+        Ok(())
+    }
+}
