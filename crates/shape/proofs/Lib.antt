@@ -1,5 +1,9 @@
 pub mod Depths
+pub mod Edits
+pub mod Ignores
 pub mod InMemory
+pub mod Places
 pub mod Seeds
 pub mod Steps
 pub mod Views
+pub mod Walks

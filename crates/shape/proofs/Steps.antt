@@ -4,6 +4,7 @@ use Rattle.std.proofs.Math.Seq.{drop-cons}
 use Rattle.std.proofs.lemmas.List.{map-append}
 use Rattle.data_core.specs.declared.fault.Fault.{Fault}
 use Rattle.data_core.specs.declared.fault.Fault.TheVariants.{InvalidLength}
+use Rattle.data_core.specs.declared.path.Segment.{Segment}
 use Rattle.data_core.specs.declared.path.Segment.TheVariants.{Seq}
 use Rattle.data_core.specs.Source.{Source, Sources, end, more}
 use Rattle.data_core.specs.Sequence.{rest_of, place_after, Ends}
@@ -11,9 +12,10 @@ use Rattle.data_core.specs.Tracking.{Refusal, clear}
 use Rattle.data_core.specs.Outcome.{Outcome, given, refused, under, and_then, IsRefused}
 use Rattle.data_core.proofs.Refusals.{Carries, IsRefused-here}
 use Rattle.shape.specs.Shape.{Data, seq_data, parts_of}
-use Rattle.shape.specs.First.{first, elements_data, each, row_of, unless}
+use Rattle.data_std.specs.Ignored.{at_key}
+use Rattle.shape.specs.First.{first, elements_data, each, row_of, unless, both, pair_of}
 use Rattle.shape.specs.declared.data.Data as code
-use Rattle.shape.specs.declared.data.Shape.{Shape}
+use Rattle.shape.specs.declared.shapes.Shape.{Shape}
 use Rattle.shape.specs.View.{shape_view, readers_of, data_view}
 use Rattle.shape.specs.Steps.{next_of, one_each, beyond}
 
@@ -115,15 +117,15 @@ module _ (rest : ℕ → Sources → Outcome (Unit {0})) where
   row_split (read ∷ reads) i j end e = refl
   row_split (read ∷ reads) i j (more s ss) e = row_split_under (under (Seq i) (read s)) reads i j ss (row_split reads (i + 1) j ss (omega (arith, e)))
 
-  pub Carries-row : (reads : List (Source → Outcome Data)) (ss : Sources) → Carries (one_each reads 0 ss) (elements_data (row_of rest reads 0 ss))
+  pub Carries-row : (reads : List (Source → Outcome Data)) (ss : Sources) → Carries (one_each reads 0 ss) (row_of rest reads 0 ss)
   Carries-row reads ss f path e = rw (row_split reads 0 (length reads) ss (omega arith), e) refl
 
   pub Carries-rest : (reads : List (Source → Outcome Data)) (ss : Sources) (ds : List Data) → one_each reads 0 ss ≡ given ds
-      → Carries (rest (length reads) (beyond reads ss)) (elements_data (row_of rest reads 0 ss))
+      → Carries (rest (length reads) (beyond reads ss)) (row_of rest reads 0 ss)
   Carries-rest reads ss ds h f path e = rw (row_split reads 0 (length reads) ss (omega arith), h, e) refl
 
   pub row_given : (reads : List (Source → Outcome Data)) (ss : Sources) (ds : List Data) → one_each reads 0 ss ≡ given ds
-      → rest (length reads) (beyond reads ss) ≡ given tt → elements_data (row_of rest reads 0 ss) ≡ given (seq_data (parts_of ds))
+      → rest (length reads) (beyond reads ss) ≡ given tt → row_of rest reads 0 ss ≡ given ds
   row_given reads ss ds h e = rw (row_split reads 0 (length reads) ss (omega arith), h, e) refl
 
 -- the end of a tuple
@@ -136,3 +138,11 @@ pub unless-refused : {E : Type 0} (fault : E → Option Fault) (tracks : Bool) (
     → (old ≡ clear → new ≡ clear) → Ends fault (Err e) o → IsRefused tracks (fault e) (unless o) old new
 unless-refused fault tracks e None old new clears h = rw h tt
 unless-refused fault tracks e (Some f) old new clears h = IsRefused-here tracks (fault e) f (unless (Some f)) old new h refl clears
+
+-- an entry
+
+pub Carries-value : (segment : Segment) (key value : Outcome Data) (k : Data) → at_key segment key ≡ given k → Carries (under segment value) (pair_of segment key value)
+Carries-value segment key value k h f path e = rw (h, e) refl
+
+pub pair_given : (segment : Segment) (key value : Outcome Data) (k v : Data) → at_key segment key ≡ given k → under segment value ≡ given v → pair_of segment key value ≡ both k v
+pair_given segment key value k v h e = rw (h, e) refl

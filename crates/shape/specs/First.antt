@@ -1,5 +1,5 @@
 -- The first outcome of a shape over a source: its value, or the first fault with the path to it.
-use Rattle.std.specs.Prelude.{ℕ, ℤ, Bool, ◌^◌, ◌+◌, ◌-◌, List, [], ◌∷◌, Option, Some, None, pos, negsuc, nat_le, if◌then◌else◌, encode_utf8}
+use Rattle.std.specs.Prelude.{ℕ, ℤ, Bool, true, false, ◌^◌, ◌+◌, ◌-◌, List, [], ◌∷◌, Option, Some, None, pos, negsuc, nat_le, if◌then◌else◌, encode_utf8}
 use Rattle.std.specs.Str.{chars, is_utf8}
 use Rattle.data_core.specs.declared.fault.Fault.{Fault}
 use Rattle.data_core.specs.declared.fault.Fault.TheVariants.{InvalidLength, InvalidValue}
@@ -7,13 +7,18 @@ use Rattle.data_core.specs.declared.fault.Kind.TheVariants as kind
 use Rattle.data_core.specs.Only.{only}
 use Rattle.data_core.specs.Ask as ask
 use Rattle.data_core.specs.Ask.{Ask}
-use Rattle.data_core.specs.Source.{Source, Sources, end, more, Offer, scalar, elements, offer_of}
+use Rattle.data_core.specs.Source.{Source, Sources, end, more, Entries, no_entries, entry, Offer, scalar, elements, entries, offer_of}
 use Rattle.data_core.specs.Source as offer
 use Rattle.data_core.specs.Outcome.{Outcome, given, refused, under, and_then, not_taken}
 use Rattle.data_core.specs.Sequence.{surplus}
+use Rattle.data_core.specs.declared.path.Segment.{Segment}
 use Rattle.data_core.specs.declared.path.Segment.TheVariants.{Seq}
-use Rattle.data_std.specs.Ignored.{ignored_rest}
-use Rattle.shape.specs.Shape.{Shape, boolean, u8, u16, u32, u64, i8, i16, i32, i64, character, text, bytes, unit, unit_struct, option, seq, tuple, tuple_struct, prefix, prefix_struct, number_of, Shapes, no_shapes, shape, Data, boolean_data, unsigned, signed, character_data, text_data, bytes_data, unit_data, nothing, something, seq_data, parts_of}
+use Rattle.data_core.specs.Table.{segment_of_key}
+use Rattle.data_core.specs.Pairs.{put}
+use Rattle.data_std.specs.Ignored.{ignored_rest, at_key}
+use Rattle.shape.specs.DataOrder.{data_order}
+use Rattle.shape.specs.Fields.{Field, fields_of, named}
+use Rattle.shape.specs.Shape.{Shape, boolean, u8, u16, u32, u64, i8, i16, i32, i64, character, text, bytes, unit, unit_struct, option, seq, tuple, tuple_struct, prefix, prefix_struct, map, newtype, struct, strict, loose, number_of, Shapes, no_shapes, shape, Data, boolean_data, unsigned, signed, character_data, text_data, bytes_data, unit_data, nothing, something, newtype_data, seq_data, map_data, struct_data, parts_of, pairs_of}
 
 -- what a shape hopes for
 abbrev pub asks : Shape → Ask
@@ -37,6 +42,11 @@ asks (tuple row) = ask.tuple (number_of row)
 asks (tuple_struct name row) = ask.tuple_struct name (number_of row)
 asks (prefix row) = ask.tuple (number_of row)
 asks (prefix_struct name row) = ask.tuple_struct name (number_of row)
+asks (map k v) = ask.map
+asks (newtype name a) = ask.newtype_struct name
+asks (struct name names row) = ask.struct name names
+asks (strict name names row) = ask.struct name names
+asks (loose name names row) = ask.struct name names
 
 -- the boolean, and nothing else
 abbrev pub boolean_of : Offer → Outcome Data
@@ -122,15 +132,57 @@ abbrev pub unless : Option Fault → Outcome (Unit {0})
 unless None = given tt
 unless (Some f) = refused f []
 
--- a tuple: elements that are left are refused where the end is checked
+-- elements that are left are refused where the end is checked
+abbrev pub refuse_rest : Bool → ℕ → Sources → Outcome (Unit {0})
+refuse_rest checks i left = unless (surplus checks i left)
+
+-- a tuple: no element is left, where the end is checked
 abbrev pub tuple_of : List (Source → Outcome Data) → Offer → Outcome Data
-tuple_of reads (elements checks ss) = elements_data (row_of (λ i left. unless (surplus checks i left)) reads 0 ss)
+tuple_of reads (elements checks ss) = elements_data (row_of (refuse_rest checks) reads 0 ss)
 tuple_of reads o = not_taken o
 
 -- the first elements: those that are left are read as what is ignored
 abbrev pub prefix_of : List (Source → Outcome Data) → Offer → Outcome Data
 prefix_of reads (elements checks ss) = elements_data (row_of ignored_rest reads 0 ss)
 prefix_of reads o = not_taken o
+
+-- the inside of a newtype struct
+abbrev pub newtype_of : (Source → Outcome Data) → Offer → Outcome Data
+newtype_of read (offer.newtype_struct s) = and_then (read s) (λ d. given (newtype_data d))
+newtype_of read o = not_taken o
+
+abbrev pub both : Data → Data → Outcome (Data × Data)
+both k v = given (k, v)
+
+-- a key and then its value, both at the segment of their entry
+abbrev pub pair_of : Segment → Outcome Data → Outcome Data → Outcome (Data × Data)
+pair_of segment key value = and_then (at_key segment key) (λ k. and_then (under segment value) (λ v. both k v))
+
+-- each entry in order, put into the pairs of those before it, up to the first fault
+abbrev pub each_entry : Ask → (Source → Outcome Data) → (Source → Outcome Data) → List (Data × Data) → Entries → Outcome (List (Data × Data))
+each_entry a key value ps no_entries = given ps
+each_entry a key value ps (entry k v es) =
+    and_then (pair_of (segment_of_key a k) (key k) (value v)) (λ p. each_entry a key value (put data_order p.0 p.1 ps) es)
+
+-- the entries of a map, by what the reader of its keys asks and by both readers
+abbrev pub map_of : Ask → (Source → Outcome Data) → (Source → Outcome Data) → Offer → Outcome Data
+map_of a key value (entries checks es) = and_then (each_entry a key value [] es) (λ ps. given (map_data (pairs_of ps)))
+map_of a key value o = not_taken o
+
+-- what was read of fields, as one datum
+abbrev pub fields_data : Outcome (List Data) → Outcome Data
+fields_data o = and_then o (λ ds. given (struct_data (parts_of ds)))
+
+-- what becomes of elements that are left: of a whole struct they are refused, and else ignored
+abbrev pub rest_of_row : Bool → Bool → ℕ → Sources → Outcome (Unit {0})
+rest_of_row true checks = refuse_rest checks
+rest_of_row false checks = ignored_rest
+
+-- a struct, from elements by position or from entries by name
+abbrev pub struct_of : Bool → Bool → List (Field Source) → List (Source → Outcome Data) → Offer → Outcome Data
+struct_of whole exact fields reads (elements checks ss) = fields_data (row_of (rest_of_row whole checks) reads 0 ss)
+struct_of whole exact fields reads (entries checks es) = fields_data (named exact fields es)
+struct_of whole exact fields reads o = not_taken o
 
 abbrev mutual
   -- what a shape makes of an offer
@@ -155,6 +207,11 @@ abbrev mutual
   visited (tuple_struct name row) o = tuple_of (readers row) o
   visited (prefix row) o = prefix_of (readers row) o
   visited (prefix_struct name row) o = prefix_of (readers row) o
+  visited (map k v) o = map_of (asks k) (λ s. visited k (offer_of s (asks k))) (λ s. visited v (offer_of s (asks v))) o
+  visited (newtype name a) o = newtype_of (λ s. visited a (offer_of s (asks a))) o
+  visited (struct name names row) o = struct_of true true (fields_of names row (readers row)) (readers row) o
+  visited (strict name names row) o = struct_of false true (fields_of names row (readers row)) (readers row) o
+  visited (loose name names row) o = struct_of false false (fields_of names row (readers row)) (readers row) o
 
   pub readers : Shapes → List (Source → Outcome Data)
   readers no_shapes = []

@@ -1,7 +1,11 @@
 -- Sources over numbers in memory.
-use Rattle.std.specs.Prelude.{ℕ, ◌-◌, Bool, true, List, [], ◌∷◌, length}
-use Rattle.data_core.specs.Source.{Source, source, scalar, unsigned, elements, Sources, end, more}
+use Rattle.std.specs.Prelude.{ℕ, ◌-◌, Bool, true, false, List, [], ◌∷◌, length, Option, None, option_map, String, Vec, string_bytes}
+use Rattle.std.specs.declared.alloc.Global.{Global}
+use Rattle.data_core.specs.declared.de.Scalar as code
+use Rattle.data_core.specs.Show.{scalar_view}
+use Rattle.data_core.specs.Source.{Source, source, Scalar, scalar, unsigned, elements, entries, Sources, end, more, Entries, no_entries, entry}
 use Rattle.data_core.specs.Sequence.{Sequence}
+use Rattle.data_core.specs.Table.{Table}
 
 abbrev pub number : ℕ → Source
 number n = source (λ _. scalar (unsigned n))
@@ -28,3 +32,19 @@ numbers_left checks total ns = record { left = numbers ns; taken = total - lengt
 
 abbrev pub rows_left : ℕ → List Numbers → Sequence
 rows_left total rs = record { left = rows rs; taken = total - length rs; checks = true }
+
+-- numbers at scalars
+abbrev pub pairs : List (Scalar × ℕ) → Entries
+pairs [] = no_entries
+pairs (p ∷ ps) = entry (source (λ _. scalar p.0)) (number p.1) (pairs ps)
+
+abbrev pub key_view : code.Scalar (String Global) (Vec ℕ Global) × ℕ → Scalar × ℕ
+key_view p = (scalar_view string_bytes (λ b. b.items) p.0, p.1)
+
+-- entries, whatever is asked for, whose end is not checked
+abbrev pub table : Entries → Source
+table es = source (λ _. entries false es)
+
+abbrev pub pairs_left : ℕ → Option ℕ → List (Scalar × ℕ) → Table
+pairs_left taken waiting ps =
+    record { left = pairs ps; taken = taken; waiting = option_map number waiting; caught = None; checks = false }

@@ -1,10 +1,13 @@
 pub mod Shape
 pub mod DataCode
 pub mod Depth
+pub mod Fields
 pub mod First
 pub mod View
 pub mod Steps
 pub mod Sizes
+pub mod DataOrder
+pub mod DataOrderLaws
 pub mod Refusals
 pub mod ShapeSeed
 pub mod Upgraded

@@ -24,6 +24,15 @@ mutual
     -- a tuple, and a tuple struct, after which more elements may come
     prefix : Shapes → Shape
     prefix_struct : List ℕ → Shapes → Shape
+    -- the shape of the keys, and that of the values
+    map : Shape → Shape → Shape
+    newtype : List ℕ → Shape → Shape
+    -- a struct: its name, the names of its fields, and the shapes at their places
+    struct : List ℕ → List (List ℕ) → Shapes → Shape
+    -- a struct, after whose elements more may come
+    strict : List ℕ → List (List ℕ) → Shapes → Shape
+    -- a struct, beside whose fields others may come, too
+    loose : List ℕ → List (List ℕ) → Shapes → Shape
 
   pub data Shapes : Type 0 where
     no_shapes : Shapes
@@ -48,13 +57,34 @@ mutual
     unit_data : Data
     nothing : Data
     something : Data → Data
+    newtype_data : Data → Data
     -- what was read of elements in order
     seq_data : Parts → Data
+    -- what was read of entries, by rising key
+    map_data : DataPairs → Data
+    -- the values of fields, in the order of the shape
+    struct_data : Parts → Data
+    -- a variant's number, and what it holds
+    enum_data : ℕ → PayloadData → Data
 
   pub data Parts : Type 0 where
     no_parts : Parts
     part : Data → Parts → Parts
 
+  pub data DataPairs : Type 0 where
+    no_pairs : DataPairs
+    pair : Data → Data → DataPairs → DataPairs
+
+  pub data PayloadData : Type 0 where
+    unit_payload : PayloadData
+    newtype_payload : Data → PayloadData
+    tuple_payload : Parts → PayloadData
+    struct_payload : Parts → PayloadData
+
 abbrev pub parts_of : List Data → Parts
 parts_of [] = no_parts
 parts_of (d ∷ ds) = part d (parts_of ds)
+
+abbrev pub pairs_of : List (Data × Data) → DataPairs
+pairs_of [] = no_pairs
+pairs_of (p ∷ ps) = pair p.0 p.1 (pairs_of ps)

@@ -1,5 +1,5 @@
 -- The shape that a reader reads.
-use Rattle.shape.specs.declared.data.Shape.{Shape}
+use Rattle.shape.specs.declared.shapes.Shape.{Shape}
 use Rattle.shape.specs.declared.seed.ShapeSeed.{ShapeSeed}
 
 abbrev pub shape_of : ShapeSeed → Shape

@@ -1,13 +1,19 @@
 -- The shapes and the data of the code, as those of the specs.
-use Rattle.std.specs.Prelude.{List, map, None, Some}
+use denote.Ref.{Bor}
+use Rattle.std.specs.Prelude.{ℕ, List, map, Option, None, Some, option_map, Vec}
+use Rattle.std.specs.declared.alloc.Global.{Global}
 use Rattle.data_core.specs.Source.{Source}
 use Rattle.data_core.specs.Outcome.{Outcome}
 use Rattle.shape.specs.Shape as spec
+use Rattle.shape.specs.Fields.{Field, fields_of}
 use Rattle.shape.specs.First.{first}
-use Rattle.shape.specs.declared.data.Shape.{Shape, Row_of-Shape, end_of-Shape, more_of-Shape}
-use Rattle.shape.specs.declared.data.Shape as shape
+use Rattle.shape.specs.declared.shapes.Shape.{Shape, Row_of-Shape, end_of-Shape, more_of-Shape}
+use Rattle.shape.specs.declared.shapes.Shape as shape
+use Rattle.shape.specs.declared.shapes.Fields.{Fields}
 use Rattle.shape.specs.declared.data.Data.{Data}
 use Rattle.shape.specs.declared.data.Data.TheVariants as datum
+use Rattle.shape.specs.declared.data.Payload.{Payload}
+use Rattle.shape.specs.declared.data.Payload.TheVariants as payload
 
 abbrev mutual
   pub shape_view : Shape → spec.Shape
@@ -31,10 +37,26 @@ abbrev mutual
   shape_view (shape.TupleStruct' name m row) = spec.tuple_struct name (shapes_view row)
   shape_view (shape.Prefix' m row) = spec.prefix (shapes_view row)
   shape_view (shape.PrefixStruct' name m row) = spec.prefix_struct name (shapes_view row)
+  shape_view (shape.Map' p k v) = spec.map (shape_view k) (shape_view v)
+  shape_view (shape.Newtype' name p a) = spec.newtype name (shape_view a)
+  shape_view (shape.Struct' name names m row) = spec.struct name names (shapes_view row)
+  shape_view (shape.Strict' name names m row) = spec.strict name names (shapes_view row)
+  shape_view (shape.Loose' name names m row) = spec.loose name names (shapes_view row)
 
   pub shapes_view : {m : _} → Row_of-Shape m → spec.Shapes
   shapes_view end_of-Shape = spec.no_shapes
   shapes_view (more_of-Shape a rest) = spec.shape (shape_view a) (shapes_view rest)
+
+-- an option, by what its inside is seen as
+abbrev pub option_view : Option spec.Data → spec.Data
+option_view None = spec.nothing
+option_view (Some d) = spec.something d
+
+abbrev pub payload_view : Payload → spec.PayloadData
+payload_view payload.Unit = spec.unit_payload
+payload_view (payload.Newtype held) = spec.newtype_payload held
+payload_view (payload.Tuple items) = spec.tuple_payload (spec.parts_of items)
+payload_view (payload.Struct items) = spec.struct_payload (spec.parts_of items)
 
 abbrev pub data_view : Data → spec.Data
 data_view (datum.Bool b) = spec.boolean_data b
@@ -44,10 +66,33 @@ data_view (datum.Char c) = spec.character_data c
 data_view (datum.Text t) = spec.text_data t
 data_view (datum.Bytes b) = spec.bytes_data b.items
 data_view datum.Unit = spec.unit_data
-data_view (datum.Option None) = spec.nothing
-data_view (datum.Option (Some held)) = spec.something held
+data_view (datum.Option held) = option_view held
+data_view (datum.Newtype held) = spec.newtype_data held
 data_view (datum.Seq items) = spec.seq_data (spec.parts_of items)
+data_view (datum.Map pairs) = spec.map_data (spec.pairs_of pairs)
+data_view (datum.Struct items) = spec.struct_data (spec.parts_of items)
+data_view (datum.Enum n p) = spec.enum_data n (payload_view p)
+
+abbrev pub pair_view : Data × Data → spec.Data × spec.Data
+pair_view p = (data_view p.0, data_view p.1)
+
+abbrev pub lent_pair_view : Bor Data × Bor Data → spec.Data × spec.Data
+lent_pair_view p = (data_view p.0.now, data_view p.1.now)
 
 -- the readers of shapes
 abbrev pub readers_of : List Shape → List (Source → Outcome spec.Data)
 readers_of all = map (λ a. first (shape_view a)) all
+
+-- names with the shapes at their places
+abbrev pub fields_at : List (List ℕ) → List Shape → List (Field Source)
+fields_at names all = fields_of names (spec.shapes_of (map shape_view all)) (readers_of all)
+
+abbrev pub fields_in : Fields → List (Field Source)
+fields_in f = fields_at f.names f.shapes.items
+
+-- what is in the slots of fields
+abbrev pub slot_view : Option Data → Option spec.Data
+slot_view slot = option_map data_view slot
+
+abbrev pub slots_view : Vec (Option Data) Global → List (Option spec.Data)
+slots_view slots = map slot_view slots.items

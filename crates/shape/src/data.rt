@@ -1,42 +1,10 @@
-//! Shapes, and the data that is read by them.
-ghost use Rattle.std.specs.Prelude.{◌≡◌, length, map, IsTrue, ◌↔◌, []};
-ghost use Rattle.shape.specs.View.{data_view};
-
+//! The data that is read by a shape.
 use data_core::Text;
 use std::marker::Model;
 
-/// What a reader is to read. It is this project's own. Dropping it recurses as deep as it nests.
-#[derive(Drop)]
-pub enum Shape {
-    Bool,
-    U8,
-    U16,
-    U32,
-    U64,
-    I8,
-    I16,
-    I32,
-    I64,
-    Char,
-    Text,
-    Bytes,
-    Unit,
-    /// A unit struct, and its name.
-    UnitStruct(Text),
-    Option(Box<Shape>),
-    /// A sequence of elements of one shape.
-    Seq(Box<Shape>),
-    /// So many elements, each of a shape of its own.
-    Tuple(Vec<Shape>),
-    /// A tuple struct: its name, and the shapes of its elements.
-    TupleStruct(Text, Vec<Shape>),
-    /// A tuple, after which more elements may come. They are read as what is ignored.
-    Prefix(Vec<Shape>),
-    /// A tuple struct, after which more elements may come. They are read as what is ignored.
-    PrefixStruct(Text, Vec<Shape>),
-}
-
-/// What is read by a shape. It is this project's own.
+/// What is read by a shape, in order by variant as they are written here, and then by what the variant
+/// holds: of lists the first difference counts, and then the length. It is this project's own. Comparing
+/// takes no memory. Comparing and dropping recurse as deep as it nests.
 #[cycle(data)]
 #[derive(Drop)]
 pub enum Data {
@@ -50,8 +18,27 @@ pub enum Data {
     Bytes(Vec<u8>),
     Unit,
     Option(Option<DataHeld>),
+    /// What a newtype struct holds.
+    Newtype(DataHeld),
     /// The values of a sequence, a tuple, a tuple struct, or the prefix of one of these two.
     Seq(DataItems),
+    Map(DataMap),
+    /// The values of a struct's fields, in the order of its shape.
+    Struct(DataItems),
+    /// A variant's number, and what the variant holds.
+    Enum(usize, Payload),
+}
+
+/// What a variant holds, in order by variant and then by what that holds. It is this project's own.
+/// Comparing takes no memory. Comparing and dropping recurse as deep as it nests.
+#[cycle(data)]
+#[derive(Drop)]
+pub enum Payload {
+    Unit,
+    Newtype(DataHeld),
+    Tuple(DataItems),
+    /// The values of the fields, in the order of the variant's shape.
+    Struct(DataItems),
 }
 
 /// What was read, in a box. It is this project's own. Dropping it recurses as deep as it nests.
@@ -67,6 +54,14 @@ pub struct DataHeld {
 #[derive(Drop)]
 pub struct DataItems {
     pub(crate) items: Vec<Data>,
+}
+
+/// What was read of entries: pairs by strictly rising key, which compare as a list of pairs. It is this
+/// project's own. Comparing takes no memory. Comparing and dropping recurse as deep as it nests.
+#[cycle(data)]
+#[derive(Drop)]
+pub struct DataMap {
+    pub(crate) pairs: Vec<(Data, Data)>,
 }
 
 impl Model for DataHeld {
@@ -114,93 +109,31 @@ impl Model for DataItems {
     ghost size_decreases = { λ a i. omega (arith, most≤depth a.items.items) };
 }
 
-impl DataHeld {
-    /// What is in a box, held. Takes no memory.
-    pub fn from_box(inner: Box<Data>) -> DataHeld
-        ensures { result ≡ data_view inner.value }
-    {
-        DataHeld { inner }
-    }
+impl Model for DataMap {
+    ghost use Rattle.std.specs.Prelude.{List, map};
+    ghost use Rattle.std.specs.Coded.{coded_list, coded×};
+    ghost use Rattle.shape.specs.Shape as plain;
+    ghost use Rattle.shape.specs.Shape.{pairs_of};
+    ghost use Rattle.shape.specs.DataCode.{coded_data};
 
-    /// What is held, still in its box. Takes no memory.
-    pub fn into_box(self) -> Box<Data>
-        ensures { data_view result.value ≡ self }
-    {
-        self.inner
-    }
+    ghost Value = { List (plain.Data × plain.Data) };
 
-    /// What is held. Takes no memory.
-    pub fn into_inner(self) -> Data
-        ensures { data_view result ≡ self }
-    {
-        Box::into_inner(self.inner)
-    }
+    ghost coded = { coded_list (coded× coded_data coded_data) };
 
-    /// What is held, lent. Takes no memory.
-    pub fn get(&self) -> &Data
-        ensures { data_view result.now ≡ self.now }
-    {
-        &self.inner
-    }
-}
+    ghost use Rattle.shape.specs.Depth.{depth_of_pairs};
+    ghost use Rattle.shape.specs.View.{pair_view};
 
-impl DataItems {
-    /// What is in a `Vec`, as items. Takes no memory.
-    pub fn from_vec(items: Vec<Data>) -> DataItems
-        ensures { result ≡ map data_view items.items }
-    {
-        DataItems { items }
-    }
+    ghost view = { λ m. map pair_view m.pairs.items };
 
-    /// The items, in their `Vec`. Takes no memory.
-    pub fn into_vec(self) -> Vec<Data>
-        ensures { map data_view result.items ≡ self }
-    {
-        self.items
-    }
+    ghost use Rattle.data_core.specs.Pairs.{Rises};
+    ghost use Rattle.shape.specs.DataOrder.{data_order};
 
-    /// The items, lent. Takes no memory.
-    pub fn as_slice(&self) -> &[Data]
-        ensures { map data_view result.now ≡ self.now }
-    {
-        self.items.as_slice()
-    }
+    ghost invariant = { λ m. Rises data_order (map pair_view m.pairs.items) };
 
-    /// How many items there are. Takes no memory.
-    pub fn len(&self) -> usize
-        ensures { result ≡ length self.now }
-    {
-        self.items.len()
-    }
+    ghost size = { λ ps. depth_of_pairs (pairs_of ps) };
 
-    /// Whether there is no item. Takes no memory.
-    pub fn is_empty(&self) -> bool
-        ensures { IsTrue result ↔ (self.now ≡ []) }
-    {
-        self.items.is_empty()
-    }
-}
+    ghost use Rattle.std.proofs.Common.{arith};
+    ghost use Rattle.shape.specs.Sizes.{most≤depth_of_pairs};
 
-#[cfg(test)]
-mod tests {
-    use super::*;
-    use std::test::Fail;
-
-    #[test]
-    fn what_is_held_comes_back(rt: HostRuntime) -> Result<(), Fail> {
-        let held = DataHeld::from_box(Box::new(rt.alloc(), Data::Unsigned(7))?);
-        assert!(rt; matches!(held.get(), Data::Unsigned(7)));
-        let held = DataHeld::from_box(held.into_box());
-        assert!(rt; matches!(held.into_inner(), Data::Unsigned(7)));
-        Ok(())
-    }
-
-    #[test]
-    fn items_come_back(rt: HostRuntime) -> Result<(), Fail> {
-        let items = DataItems::from_vec(vec![in rt.alloc(); Data::Unit]?);
-        assert!(rt; items.len() == 1 && !items.is_empty());
-        assert!(rt; matches!(items.as_slice(), [Data::Unit]));
-        assert!(rt; matches!(items.into_vec().as_slice(), [Data::Unit]));
-        Ok(())
-    }
+    ghost size_decreases = { λ m i. omega (arith, most≤depth_of_pairs m.pairs.items) };
 }

@@ -2,19 +2,35 @@
 #![tactic(auto)]
 
 mod data;
+mod entries;
+#[cfg(test)]
+mod field_tests;
+mod fields;
+mod iter;
+mod map;
+#[cfg(test)]
+mod map_tests;
 #[cfg(test)]
 mod memory;
+mod order;
+mod parts;
 mod reader;
 #[cfg(test)]
 mod row_tests;
 mod rows;
 mod scalars;
 mod seed;
+mod shapes;
+mod structs;
 #[cfg(test)]
 mod tests;
+mod traits;
 mod version;
 
-pub use data::{Data, DataHeld, DataItems, Shape};
+pub use data::{Data, DataHeld, DataItems, DataMap, Payload};
+pub use iter::DataMapIter;
+pub use map::DataUnplaced;
 pub use reader::{hint, visit};
 pub use seed::ShapeSeed;
+pub use shapes::{Fields, MapShape, Shape};
 pub use version::upgrade;

@@ -5,9 +5,11 @@ ghost use Rattle.data_core.specs.declared.fault.Fault as code;
 ghost use Rattle.data_core.specs.Source.{Source, source, scalar};
 ghost use Rattle.data_core.specs.Sequence.{Sequence};
 ghost use Rattle.data_core.specs.Show.{scalar_view};
-ghost use Rattle.shape.specs.InMemory.{numbers, row, rows, numbers_left, rows_left};
+ghost use Rattle.shape.specs.InMemory.{numbers, row, rows, pairs, table, numbers_left, rows_left, pairs_left, key_view};
 
-use data_core::{DeError, Deserializer, Fault, Hint, Names, Scalar, Shown, Track, Unexpected};
+use data_core::{
+    DeError, Deserializer, Fault, Hint, Names, Scalar, Shown, Text, Track, Unexpected,
+};
 use std::alloc::Global;
 use std::vec;
 
@@ -17,7 +19,7 @@ pub enum PlainError {
     Memory,
 }
 
-// What is in memory has no names to be refused: such a fault is kept as want of memory, which any may be.
+// No variant is in memory: such a fault is kept as want of memory, which any may be.
 impl DeError for PlainError {
     ghost use Rattle.shape.specs.declared.memory.PlainError.TheVariants as error;
 
@@ -47,16 +49,25 @@ impl DeError for PlainError {
         PlainError::Memory
     }
 
-    fn unknown_field(_alloc: Global, _field: &str, _expected: &Names) -> PlainError {
-        PlainError::Memory
+    fn unknown_field(alloc: Global, field: &str, _expected: &Names) -> PlainError {
+        match Text::new(alloc, field) {
+            Ok(field) => PlainError::Refused(Fault::UnknownField(field)),
+            Err(_) => PlainError::Memory,
+        }
     }
 
-    fn missing_field(_alloc: Global, _field: &str) -> PlainError {
-        PlainError::Memory
+    fn missing_field(alloc: Global, field: &str) -> PlainError {
+        match Text::new(alloc, field) {
+            Ok(field) => PlainError::Refused(Fault::MissingField(field)),
+            Err(_) => PlainError::Memory,
+        }
     }
 
-    fn duplicate_field(_alloc: Global, _field: &str) -> PlainError {
-        PlainError::Memory
+    fn duplicate_field(alloc: Global, field: &str) -> PlainError {
+        match Text::new(alloc, field) {
+            Ok(field) => PlainError::Refused(Fault::DuplicateField(field)),
+            Err(_) => PlainError::Memory,
+        }
     }
 
     fn into_fault(self) -> Option<Fault> {
@@ -74,12 +85,14 @@ pub struct Row {
     pub numbers: Vec<u16>,
 }
 
-// What is in memory: a scalar, numbers in a row, or rows in a row whose end is checked.
+// What is in memory: a scalar, numbers in a row, rows in a row whose end is checked, or numbers
+// at scalars.
 #[derive(Drop)]
 pub enum Plain {
     Scalar(Scalar<String, Vec<u8>>),
     Row(Row),
     Rows(Vec<Row>),
+    Table(Vec<(Scalar<String, Vec<u8>>, u16)>),
 }
 
 // The numbers of a row that are left.
@@ -105,6 +118,14 @@ pub enum PlainSeq {
     Rows(RowsLeft),
 }
 
+// The entries of a table that are left, the value whose key was taken last, and how many were taken.
+#[derive(Drop)]
+pub struct PlainEntries {
+    taken: usize,
+    waiting: Option<u16>,
+    entries: vec::IntoIter<(Scalar<String, Vec<u8>>, u16)>,
+}
+
 // It shows what is there, whatever is hoped for.
 impl Deserializer for Plain {
     type Error = PlainError;
@@ -115,6 +136,8 @@ impl Deserializer for Plain {
 
     type Seq = PlainSeq;
 
+    type Map = PlainEntries;
+
     ghost use Rattle.shape.specs.declared.memory.Plain.TheVariants as plain;
     ghost use Rattle.shape.specs.declared.memory.PlainSeq.TheVariants as left;
 
@@ -124,12 +147,15 @@ impl Deserializer for Plain {
       | plain.Scalar s ↦ source (λ _. scalar (scalar_view string_bytes (λ b. b.items) s))
       | plain.Row r ↦ row r.is_checked (numbers r.numbers.items)
       | plain.Rows rs ↦ row true (rows (map (λ r. (r.is_checked, r.numbers.items)) rs.items))
+      | plain.Table ps ↦ table (pairs (map key_view ps.items))
     ] };
 
     ghost sequence = { λ q. elim q as (λ _. Sequence) [
       | left.Numbers q ↦ numbers_left q.is_checked q.total (into_iter_items q.numbers)
       | left.Rows q ↦ rows_left q.total (map (λ r. (r.is_checked, r.numbers.items)) (into_iter_items q.rows))
     ] };
+
+    ghost table = { λ m. pairs_left m.taken m.waiting (map key_view (into_iter_items m.entries)) };
 
     fn show(self, _hint: Hint<'_>) -> Result<Shown<Plain>, PlainError> {
         match self {
@@ -143,6 +169,11 @@ impl Deserializer for Plain {
                 total: rows.len(),
                 rows: rows.into_iter(),
             }))),
+            Plain::Table(pairs) => Ok(Shown::Map(PlainEntries {
+                taken: 0,
+                waiting: None,
+                entries: pairs.into_iter(),
+            })),
         }
     }
 
@@ -190,5 +221,59 @@ impl Deserializer for Plain {
             }
             _ => Ok(()),
         }
+    }
+
+    fn next_key(map: &mut PlainEntries) -> Result<Option<Plain>, PlainError> {
+        map.waiting = None;
+        let Some((key, value)) = map.entries.next() else {
+            return Ok(None);
+        };
+        let Some(taken) = map.taken.checked_add(1) else {
+            return Err(PlainError::Memory);
+        };
+        map.taken = taken;
+        map.waiting = Some(value);
+        Ok(Some(Plain::Scalar(key)))
+    }
+
+    fn show_key(
+        _map: &mut PlainEntries,
+        key: Plain,
+        hint: Hint<'_>,
+    ) -> Result<Shown<Plain>, PlainError> {
+        key.show(hint)
+    }
+
+    fn leave_key(
+        _map: &mut PlainEntries,
+        _held: bool,
+        _failed: bool,
+        _track: &mut Track,
+    ) -> Result<(), PlainError> {
+        Ok(())
+    }
+
+    fn next_value(map: &mut PlainEntries) -> Result<Plain, PlainError> {
+        match map.waiting.take() {
+            Some(value) => Ok(Plain::Scalar(Scalar::U16(value))),
+            None => Err(PlainError::Memory),
+        }
+    }
+
+    fn leave_value(
+        _map: &mut PlainEntries,
+        _held: bool,
+        _failed: bool,
+        _track: &mut Track,
+    ) -> Result<(), PlainError> {
+        Ok(())
+    }
+
+    fn entries_left(_map: &PlainEntries) -> Option<usize> {
+        None
+    }
+
+    fn end_map(_alloc: Global, _map: PlainEntries) -> Result<(), PlainError> {
+        Ok(())
     }
 }

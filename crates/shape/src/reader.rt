@@ -3,14 +3,17 @@ ghost use Rattle.std.specs.Prelude.{◌≡◌};
 ghost use Rattle.data_core.specs.Ask.{ask};
 ghost use Rattle.data_core.specs.Show.{shown_offer, Begins};
 ghost use Rattle.data_core.specs.Outcome.{Gives};
-ghost use Rattle.shape.specs.First.{asks, visited, first, option_of};
+ghost use Rattle.shape.specs.First.{asks, visited, first, option_of, newtype_of};
 ghost use Rattle.shape.specs.View.{shape_view, data_view};
 
-use crate::data::{Data, DataHeld, Shape};
+use crate::data::{Data, DataHeld};
+use crate::entries::visit_map;
 use crate::rows::{visit_prefix, visit_seq, visit_tuple};
 use crate::scalars::{
     visit_bool, visit_bytes, visit_char, visit_signed, visit_text, visit_unit, visit_unsigned,
 };
+use crate::shapes::Shape;
+use crate::structs::visit_struct;
 use data_core::{DeError, Deserializer, Hint, Scalar, Shown, Track, refused};
 use std::alloc::Global;
 
@@ -40,6 +43,11 @@ pub fn hint(shape: &Shape) -> Hint<'_>
         Shape::TupleStruct(name, shapes) => Hint::TupleStruct(name.as_str(), shapes.len()),
         Shape::Prefix(shapes) => Hint::Tuple(shapes.len()),
         Shape::PrefixStruct(name, shapes) => Hint::TupleStruct(name.as_str(), shapes.len()),
+        Shape::Map(_) => Hint::Map,
+        Shape::Newtype(name, _) => Hint::NewtypeStruct(name.as_str()),
+        Shape::Struct(name, fields) => Hint::Struct(name.as_str(), &fields.names),
+        Shape::Strict(name, fields) => Hint::Struct(name.as_str(), &fields.names),
+        Shape::Loose(name, fields) => Hint::Struct(name.as_str(), &fields.names),
     }
 }
 
@@ -70,9 +78,9 @@ pub fn visit<D: Deserializer>(
     shown: Shown<D>,
     track: &mut Track,
 ) -> Result<Data, D::Error>
-    requires { Begins D.sequence shown }
+    requires { Begins D.sequence D.table shown }
     ensures { Gives D.Error.fault D.tracks data_view result
-        (visited (shape_view shape.now) (shown_offer D.Text.text D.Bytes.bytes D.source D.sequence shown))
+        (visited (shape_view shape.now) (shown_offer D.Text.text D.Bytes.bytes D.source D.sequence D.table shown))
         track.old track.new }
 {
     match shape {
@@ -98,6 +106,11 @@ pub fn visit<D: Deserializer>(
         Shape::PrefixStruct(_, shapes) => {
             visit_prefix(alloc, shapes, shown, "tuple struct", track)
         }
+        Shape::Map(shapes) => visit_map(alloc, shapes, shown, track),
+        Shape::Newtype(_, inner) => visit_newtype(alloc, inner, shown, track),
+        Shape::Struct(_, fields) => visit_struct(alloc, fields, true, true, shown, track),
+        Shape::Strict(_, fields) => visit_struct(alloc, fields, false, true, shown, track),
+        Shape::Loose(_, fields) => visit_struct(alloc, fields, false, false, shown, track),
     }
 }
 
@@ -109,7 +122,7 @@ fn visit_option<D: Deserializer>(
     track: &mut Track,
 ) -> Result<Data, D::Error>
     ensures { Gives D.Error.fault D.tracks data_view result
-        (option_of (first (shape_view inner.now)) (shown_offer D.Text.text D.Bytes.bytes D.source D.sequence shown))
+        (option_of (first (shape_view inner.now)) (shown_offer D.Text.text D.Bytes.bytes D.source D.sequence D.table shown))
         track.old track.new }
 {
     match shown {
@@ -122,5 +135,28 @@ fn visit_option<D: Deserializer>(
             }
         }
         other => Err(refused(alloc, other, "option")),
+    }
+}
+
+#[cycle(read)]
+fn visit_newtype<D: Deserializer>(
+    alloc: Global,
+    inner: &Shape,
+    shown: Shown<D>,
+    track: &mut Track,
+) -> Result<Data, D::Error>
+    ensures { Gives D.Error.fault D.tracks data_view result
+        (newtype_of (first (shape_view inner.now)) (shown_offer D.Text.text D.Bytes.bytes D.source D.sequence D.table shown))
+        track.old track.new }
+{
+    match shown {
+        Shown::NewtypeStruct(d) => {
+            let value = read(alloc, inner, d, track)?;
+            match Box::new(alloc, value) {
+                Ok(value) => Ok(Data::Newtype(DataHeld::from_box(value))),
+                Err(_) => Err(D::Error::memory()),
+            }
+        }
+        other => Err(refused(alloc, other, "newtype struct")),
     }
 }

@@ -3,12 +3,14 @@ ghost use Rattle.std.specs.Prelude.{◌≡◌, length, OnOk, option_map};
 ghost use Rattle.data_core.specs.Show.{shown_offer, Begins};
 ghost use Rattle.data_core.specs.Sequence.{rest_of, place_after};
 ghost use Rattle.data_core.specs.Outcome.{Gives};
-ghost use Rattle.shape.specs.First.{first, each, seq_of, tuple_of, prefix_of};
+ghost use Rattle.data_std.specs.Ignored.{ignored_rest};
+ghost use Rattle.shape.specs.First.{first, each, row_of, refuse_rest, seq_of, tuple_of, prefix_of};
 ghost use Rattle.shape.specs.View.{shape_view, readers_of, data_view};
 ghost use Rattle.shape.specs.Steps.{next_of, one_each, beyond, all_viewed};
 
-use crate::data::{Data, DataItems, Shape};
+use crate::data::{Data, DataItems};
 use crate::reader::read;
+use crate::shapes::Shape;
 use data_core::{DeError, Deserializer, Shown, Track, refused};
 use data_std::ignore_rest;
 use std::alloc::Global;
@@ -21,9 +23,9 @@ pub fn visit_seq<D: Deserializer>(
     shown: Shown<D>,
     track: &mut Track,
 ) -> Result<Data, D::Error>
-    requires { Begins D.sequence shown }
+    requires { Begins D.sequence D.table shown }
     ensures { Gives D.Error.fault D.tracks data_view result
-        (seq_of (first (shape_view inner.now)) (shown_offer D.Text.text D.Bytes.bytes D.source D.sequence shown))
+        (seq_of (first (shape_view inner.now)) (shown_offer D.Text.text D.Bytes.bytes D.source D.sequence D.table shown))
         track.old track.new }
 {
     match shown {
@@ -46,16 +48,14 @@ pub fn visit_tuple<D: Deserializer>(
     expected: &str,
     track: &mut Track,
 ) -> Result<Data, D::Error>
-    requires { Begins D.sequence shown }
+    requires { Begins D.sequence D.table shown }
     ensures { Gives D.Error.fault D.tracks data_view result
-        (tuple_of (readers_of shapes.now) (shown_offer D.Text.text D.Bytes.bytes D.source D.sequence shown))
+        (tuple_of (readers_of shapes.now) (shown_offer D.Text.text D.Bytes.bytes D.source D.sequence D.table shown))
         track.old track.new }
 {
     match shown {
         Shown::Seq(seq) => {
-            let mut seq = seq;
-            let items = read_row::<D>(alloc, shapes, &mut seq, expected, track)?;
-            D::end_seq(alloc, seq)?;
+            let items = read_whole::<D>(alloc, shapes, seq, expected, track)?;
             Ok(Data::Seq(DataItems::from_vec(items)))
         }
         other => Err(refused(alloc, other, expected)),
@@ -72,20 +72,58 @@ pub fn visit_prefix<D: Deserializer>(
     expected: &str,
     track: &mut Track,
 ) -> Result<Data, D::Error>
-    requires { Begins D.sequence shown }
+    requires { Begins D.sequence D.table shown }
     ensures { Gives D.Error.fault D.tracks data_view result
-        (prefix_of (readers_of shapes.now) (shown_offer D.Text.text D.Bytes.bytes D.source D.sequence shown))
+        (prefix_of (readers_of shapes.now) (shown_offer D.Text.text D.Bytes.bytes D.source D.sequence D.table shown))
         track.old track.new }
 {
     match shown {
         Shown::Seq(seq) => {
-            let mut seq = seq;
-            let items = read_row::<D>(alloc, shapes, &mut seq, expected, track)?;
-            ignore_rest::<D>(alloc, &mut seq, track)?;
+            let items = read_prefix::<D>(alloc, shapes, seq, expected, track)?;
             Ok(Data::Seq(DataItems::from_vec(items)))
         }
         other => Err(refused(alloc, other, expected)),
     }
+}
+
+/// An element for each shape. One that is left is refused where the end is checked.
+#[cycle(read)]
+pub fn read_whole<D: Deserializer>(
+    alloc: Global,
+    shapes: &[Shape],
+    seq: D::Seq,
+    expected: &str,
+    track: &mut Track,
+) -> Result<Vec<Data>, D::Error>
+    requires { (D.sequence seq).taken ≡ 0 }
+    ensures { Gives D.Error.fault D.tracks all_viewed result
+        (row_of (refuse_rest (D.sequence seq).checks) (readers_of shapes.now) 0 (D.sequence seq).left)
+        track.old track.new }
+{
+    let mut seq = seq;
+    let items = read_row::<D>(alloc, shapes, &mut seq, expected, track)?;
+    D::end_seq(alloc, seq)?;
+    Ok(items)
+}
+
+/// An element for each shape. Those that are left are read as what is ignored.
+#[cycle(read)]
+pub fn read_prefix<D: Deserializer>(
+    alloc: Global,
+    shapes: &[Shape],
+    seq: D::Seq,
+    expected: &str,
+    track: &mut Track,
+) -> Result<Vec<Data>, D::Error>
+    requires { (D.sequence seq).taken ≡ 0 }
+    ensures { Gives D.Error.fault D.tracks all_viewed result
+        (row_of ignored_rest (readers_of shapes.now) 0 (D.sequence seq).left)
+        track.old track.new }
+{
+    let mut seq = seq;
+    let items = read_row::<D>(alloc, shapes, &mut seq, expected, track)?;
+    ignore_rest::<D>(alloc, &mut seq, track)?;
+    Ok(items)
 }
 
 // Each element that is left, read by the same shape.

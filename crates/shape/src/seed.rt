@@ -5,8 +5,9 @@ ghost use Rattle.shape.specs.View.{shape_view, data_view};
 ghost use Rattle.data_std.specs.Reads.{IsOutcome};
 ghost use Rattle.shape.specs.Refusals.{visited_refused};
 
-use crate::data::{Data, Shape};
+use crate::data::Data;
 use crate::reader::{hint, visit};
+use crate::shapes::Shape;
 use data_core::{DeserializeSeed, Deserializer, Hint, Shown, Track};
 use std::alloc::Global;
 

@@ -1,7 +1,7 @@
 //! Shapes that are read from one scalar each. The wanted values are those of serde's own readers,
 //! except that bytes are read from no text.
 use crate::memory::{Plain, PlainError};
-use crate::{Data, Shape, ShapeSeed, hint};
+use crate::{Data, DataMap, Fields, MapShape, Shape, ShapeSeed, hint};
 use data_core::{DeError, DeserializeSeed, Fault, Hint, Scalar, Text, Track};
 use std::alloc::{AllocError, Global};
 use std::test::Fail;
@@ -26,6 +26,8 @@ fn option(alloc: Global, inner: Shape) -> Result<Shape, AllocError> {
 fn data_text(alloc: Global, data: &Data) -> Result<String, AllocError> {
     match data {
         Data::Seq(items) => row_text(alloc, items.as_slice()),
+        Data::Struct(items) => row_text(alloc, items.as_slice()),
+        Data::Map(pairs) => map_text(alloc, pairs),
         other => part_text(alloc, other),
     }
 }
@@ -40,6 +42,18 @@ fn row_text(alloc: Global, items: &[Data]) -> Result<String, AllocError> {
     Ok(out)
 }
 
+fn map_text(alloc: Global, pairs: &DataMap) -> Result<String, AllocError> {
+    let mut out = String::from_str(alloc, "{")?;
+    for (key, value) in pairs {
+        out.push_str(part_text(alloc, key)?.as_str())?;
+        out.push_str(": ")?;
+        out.push_str(part_text(alloc, value)?.as_str())?;
+        out.push(';')?;
+    }
+    out.push('}')?;
+    Ok(out)
+}
+
 fn part_text(alloc: Global, data: &Data) -> Result<String, AllocError> {
     match data {
         Data::Bool(b) => format!(in alloc; "bool {b}"),
@@ -51,7 +65,11 @@ fn part_text(alloc: Global, data: &Data) -> Result<String, AllocError> {
         Data::Unit => String::from_str(alloc, "unit"),
         Data::Option(None) => String::from_str(alloc, "nothing"),
         Data::Option(Some(_)) => String::from_str(alloc, "something"),
+        Data::Newtype(_) => String::from_str(alloc, "newtype"),
         Data::Seq(items) => format!(in alloc; "{} elements", items.len()),
+        Data::Map(pairs) => format!(in alloc; "{} pairs", pairs.len()),
+        Data::Struct(items) => format!(in alloc; "{} fields", items.len()),
+        Data::Enum(n, _) => format!(in alloc; "variant {n}"),
     }
 }
 
@@ -60,6 +78,9 @@ fn error_text(alloc: Global, error: PlainError) -> Result<String, AllocError> {
         Some(Fault::InvalidType(kind)) => format!(in alloc; "InvalidType {}", kind.as_str()),
         Some(Fault::InvalidValue(kind)) => format!(in alloc; "InvalidValue {}", kind.as_str()),
         Some(Fault::InvalidLength(len)) => format!(in alloc; "InvalidLength {len}"),
+        Some(Fault::UnknownField(name)) => format!(in alloc; "unknown {}", name.as_str()),
+        Some(Fault::MissingField(name)) => format!(in alloc; "missing {}", name.as_str()),
+        Some(Fault::DuplicateField(name)) => format!(in alloc; "duplicate {}", name.as_str()),
         Some(_) => String::from_str(alloc, "another"),
         None => Err(AllocError),
     }
@@ -188,16 +209,18 @@ fn booleans_and_units(rt: HostRuntime) -> Result<(), Fail> {
         (Shape::Bool, Scalar::U8(1), "InvalidType Unsigned"),
         (Shape::Unit, Scalar::Unit, "unit"),
         (Shape::Unit, Scalar::None, "InvalidType Option"),
-        (unit_struct(alloc, "Marker")?, Scalar::Unit, "unit"),
-        (
-            unit_struct(alloc, "Marker")?,
-            Scalar::Bool(true),
-            "InvalidType Bool",
-        ),
     ];
     for (shape, scalar, want) in table {
         assert_eq!(rt; read(alloc, &shape, scalar)?.as_str(), want);
     }
+    Ok(())
+}
+
+#[test]
+fn a_unit_struct(rt: HostRuntime) -> Result<(), Fail> {
+    let alloc = rt.alloc();
+    let shape = unit_struct(alloc, "Marker")?;
+    assert_eq!(rt; read(alloc, &shape, Scalar::Unit)?.as_str(), "unit");
     Ok(())
 }
 
@@ -240,8 +263,15 @@ fn hint_name<'a>(hint: Hint<'a>) -> &'a str {
         Hint::Seq => "seq",
         Hint::Tuple(1) => "tuple of 1",
         Hint::TupleStruct(name, 1) => name,
+        Hint::Map => "map",
+        Hint::NewtypeStruct(name) => name,
+        Hint::Struct(name, _) => name,
         _ => "another",
     }
+}
+
+pub fn map_shape(alloc: Global, key: Shape, value: Shape) -> Result<Shape, AllocError> {
+    Ok(Shape::Map(Box::new(alloc, MapShape { key, value })?))
 }
 
 fn one(alloc: Global) -> Result<Vec<Shape>, AllocError> {
@@ -269,6 +299,18 @@ fn hopes_for_its_own_kind(rt: HostRuntime) -> Result<(), Fail> {
         (Shape::Seq(Box::new(rt.alloc(), Shape::Unit)?), "seq"),
         (Shape::Tuple(one(rt.alloc())?), "tuple of 1"),
         (Shape::Prefix(one(rt.alloc())?), "tuple of 1"),
+        (map_shape(rt.alloc(), Shape::U8, Shape::Unit)?, "map"),
+        (
+            Shape::Newtype(
+                Text::new(rt.alloc(), "Meters")?,
+                Box::new(rt.alloc(), Shape::Unit)?,
+            ),
+            "Meters",
+        ),
+        (
+            Shape::Struct(Text::new(rt.alloc(), "Point")?, Fields::new(rt.alloc())),
+            "Point",
+        ),
     ];
     for (shape, want) in table {
         assert_eq!(rt; hint_name(hint(&shape)), want);

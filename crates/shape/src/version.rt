@@ -3,11 +3,11 @@ ghost use Rattle.std.specs.Prelude.{◌≡◌, map};
 ghost use Rattle.shape.specs.Upgraded.{upgraded};
 ghost use Rattle.shape.specs.View.{shape_view};
 
-use crate::data::Shape;
+use crate::shapes::{Fields, MapShape, Shape};
 use std::mem;
 
-/// The shape by which a document of version 1 is read: in it every tuple is a prefix and every tuple
-/// struct the prefix of one, at every depth. It is this project's own. Takes no memory, and recurses
+/// The shape by which a document of version 1 is read: in it every tuple is a prefix, every tuple
+/// struct the prefix of one, and every struct a loose one, at every depth. It is this project's own. Takes no memory, and recurses
 /// as deep as the shape nests.
 #[cycle(upgrade)]
 #[tactic(auto, using(crate::proofs::Views::rows))]
@@ -21,11 +21,16 @@ pub fn upgrade(shape: Shape) -> Shape
         Shape::TupleStruct(name, shapes) => Shape::PrefixStruct(name, upgrade_all(shapes)),
         Shape::Prefix(shapes) => Shape::Prefix(upgrade_all(shapes)),
         Shape::PrefixStruct(name, shapes) => Shape::PrefixStruct(name, upgrade_all(shapes)),
+        Shape::Map(shapes) => Shape::Map(upgrade_map(shapes)),
+        Shape::Newtype(name, inner) => Shape::Newtype(name, upgrade_inner(inner)),
+        Shape::Struct(name, fields) => Shape::Loose(name, upgrade_fields(fields)),
+        Shape::Strict(name, fields) => Shape::Strict(name, upgrade_fields(fields)),
+        Shape::Loose(name, fields) => Shape::Loose(name, upgrade_fields(fields)),
         other => other,
     }
 }
 
-// The inside of an option or a sequence, which stays in its box.
+// The inside of an option, a sequence or a newtype, which stays in its box.
 #[cycle(upgrade)]
 fn upgrade_inner(inner: Box<Shape>) -> Box<Shape>
     ensures { shape_view result.value ≡ upgraded (shape_view inner.value) }
@@ -34,6 +39,33 @@ fn upgrade_inner(inner: Box<Shape>) -> Box<Shape>
     let shape = mem::replace(&mut *inner, Shape::Unit);
     *inner = upgrade(shape);
     inner
+}
+
+// The shapes of a map, which stay in their box.
+#[cycle(upgrade)]
+fn upgrade_map(shapes: Box<MapShape>) -> Box<MapShape>
+    ensures key { shape_view result.value.key ≡ upgraded (shape_view shapes.value.key) }
+    ensures value { shape_view result.value.value ≡ upgraded (shape_view shapes.value.value) }
+{
+    let mut shapes = shapes;
+    let key = mem::replace(&mut shapes.key, Shape::Unit);
+    shapes.key = upgrade(key);
+    let value = mem::replace(&mut shapes.value, Shape::Unit);
+    shapes.value = upgrade(value);
+    shapes
+}
+
+// The fields of a struct, whose names stay.
+#[cycle(upgrade)]
+fn upgrade_fields(fields: Fields) -> Fields
+    ensures names { result.names ≡ fields.names }
+    ensures shapes { map shape_view result.shapes.items ≡ map (λ shape. upgraded (shape_view shape)) fields.shapes.items }
+{
+    let Fields { names, shapes } = fields;
+    Fields {
+        names,
+        shapes: upgrade_all(shapes),
+    }
 }
 
 // The shapes of a row, each at its place.

@@ -1,23 +1,34 @@
-use Rattle.std.proofs.Common.{rules, arith, ◌≡◌, ◌+◌, ◌++◌, ◌∷◌, [], drop, length, is_err, refl, sym, ◌∙◌, map}
+use Rattle.std.proofs.Common.{rules, arith, ◌≡◌, ◌+◌, ◌++◌, ◌∷◌, [], drop, length, is_err, refl, sym, ◌∙◌, ap, map, true, Some, None, replicate}
 use Rattle.std.proofs.lemmas.Result.{err_from_is_err_and}
-use Rattle.std.proofs.lemmas.List.{append-nil, length-append, length-map}
+use Rattle.std.proofs.lemmas.List.{append-nil, length-append, length-map, length-replicate}
 use Rattle.data_core.specs.declared.fault.Fault.TheVariants.{InvalidLength}
 use Rattle.data_core.specs.declared.path.Segment.TheVariants.{Seq}
-use Rattle.data_core.specs.Tracking.{left}
+use Rattle.data_core.specs.Ask.{identifier}
+use Rattle.data_core.specs.Source.{offer_of}
+use Rattle.data_core.specs.Table.{text_of, entry_segment, segment_of_key}
+use Rattle.data_core.specs.Tracking.{left, left_key}
+use Rattle.data_core.specs.Outcome.{under, and_then, given}
 use Rattle.data_core.proofs.Refusals.{IsRefused-whole, IsRefused-here, Carries-and_then, Gives-left}
 use Rattle.data_core.specs.Sequence.{surplus}
-use Rattle.data_std.specs.Ignored.{ignored_rest}
-use Rattle.shape.specs.First.{first, unless}
+use Rattle.data_std.specs.Ignored.{ignored, ignored_rest, at_key}
+use Rattle.data_std.proofs.Keys.{Gives-left_key, Gives-value, Gives-and_then}
+use Rattle.shape.specs.Shape.{something, newtype_data}
+use Rattle.shape.specs.First.{asks, first, refuse_rest, unless, both, pair_of}
+use Rattle.shape.specs.Fields.{place_of_key, put_value}
 use Rattle.shape.specs.Steps.{one_each, beyond, all_viewed}
-use Rattle.shape.specs.View.{shape_view, readers_of, data_view}
-use Rattle.shape.proofs.Views.{visited_tuple, visited_tuple_struct, visited_prefix, visited_prefix_struct}
-use Rattle.shape.proofs.Steps.{Carries-each, each_step, each_end, Carries-one_each, one_each_step, one_each_short, place_step, beyond_step, readers_at, Carries-row, Carries-rest, row_given, unless-accepted, unless-refused}
+use Rattle.shape.specs.View.{shape_view, readers_of, data_view, fields_in, slots_view}
+use Rattle.shape.proofs.Views.{visited_tuple, visited_tuple_struct, visited_prefix, visited_prefix_struct, visited_struct, visited_strict, visited_loose}
+use Rattle.shape.proofs.Places.{put_taken, put_open, put_next, put_given, Gives-dropped, all_empty}
+use Rattle.shape.proofs.Steps.{Carries-each, each_step, each_end, Carries-one_each, one_each_step, one_each_short, place_step, beyond_step, readers_at, Carries-row, Carries-rest, row_given, unless-accepted, unless-refused, Carries-value, pair_given}
 use Rattle.shape.proofs.+read.Goals as goal
 
 pub reader::visit_option-returns-in_err-value-in-Some : goal.reader::visit_option-returns-in_err-value-in-Some
 reader::visit_option-returns-in_err-value-in-Some g t c =
     let p = err_from_is_err_and c.from_residual.result c.from_residual.ensures.1 in
-    rw (p.1, p.2, c.in-Some.is) (IsRefused-whole _ _ _ _ _ _ _ (λ e. e) (Carries-and_then _ _) c.in_err-value-in-Some.ensures)
+    let de = g.D.Deserializer in
+    let inside = first (shape_view c.args.inner.now) (de.source c.in-Some.d) in
+    rw (p.1, p.2, c.in-Some.is)
+    (IsRefused-whole de.tracks (g.D.Error.DeError.fault c.in_err-value-in-Some.field-0.0) inside (and_then inside (λ d. given (something d))) c.args.track.now c.args.track.now c.read.new.track (λ e. e) (Carries-and_then inside (λ d. given (something d))) c.in_err-value-in-Some.ensures)
 
 pub reader::visit-returns-in-Seq : goal.reader::visit-returns-in-Seq
 reader::visit-returns-in-Seq g t c = rw c.in-Seq.is (rw c.deref-in-Seq.ensures at c.visit_seq.ensures)
@@ -42,6 +53,32 @@ reader::visit-returns-in-PrefixStruct g t c =
     let all = c.in-PrefixStruct.shapes in
     rw (c.in-PrefixStruct.is, visited_prefix_struct c.in-PrefixStruct.field-0 all) (rw c.deref-in-PrefixStruct.ensures.value at c.visit_prefix-in-PrefixStruct.ensures)
 
+pub reader::visit-returns-in-Map : goal.reader::visit-returns-in-Map
+reader::visit-returns-in-Map g t c = rw c.in-Map.is (rw c.deref-in-Map.ensures at c.visit_map.ensures)
+
+pub reader::visit_newtype-returns-in_err-value-in-NewtypeStruct : goal.reader::visit_newtype-returns-in_err-value-in-NewtypeStruct
+reader::visit_newtype-returns-in_err-value-in-NewtypeStruct g t c =
+    let p = err_from_is_err_and c.from_residual.result c.from_residual.ensures.1 in
+    let de = g.D.Deserializer in
+    let inside = first (shape_view c.args.inner.now) (de.source c.in-NewtypeStruct.d) in
+    rw (p.1, p.2, c.in-NewtypeStruct.is)
+    (IsRefused-whole de.tracks (g.D.Error.DeError.fault c.in_err-value-in-NewtypeStruct.field-0.0) inside (and_then inside (λ d. given (newtype_data d))) c.args.track.now c.args.track.now c.read.new.track (λ e. e) (Carries-and_then inside (λ d. given (newtype_data d))) c.in_err-value-in-NewtypeStruct.ensures)
+
+pub reader::visit-returns-in-Struct : goal.reader::visit-returns-in-Struct
+reader::visit-returns-in-Struct g t c =
+    let fields = c.in-Struct.fields in
+    rw (c.in-Struct.is, visited_struct c.in-Struct.field-0 fields) c.visit_struct.ensures
+
+pub reader::visit-returns-in-Strict : goal.reader::visit-returns-in-Strict
+reader::visit-returns-in-Strict g t c =
+    let fields = c.in-Strict.fields in
+    rw (c.in-Strict.is, visited_strict c.in-Strict.field-0 fields) c.visit_struct-in-Strict.ensures
+
+pub reader::visit-returns-in-Loose : goal.reader::visit-returns-in-Loose
+reader::visit-returns-in-Loose g t c =
+    let fields = c.in-Loose.fields in
+    rw (c.in-Loose.is, visited_loose c.in-Loose.field-0 fields) c.visit_struct-in-Loose.ensures
+
 -- each element
 
 pub rows::read_element-returns-in_err-value-clause-value : goal.rows::read_element-returns-in_err-value-clause-value
@@ -52,7 +89,9 @@ rows::read_element-returns-in_err-value-clause-value g t c =
     let taken = rw c.in-Some.is at c.in_ok-element.ensures.takes in
     let on_way_out : c.leave_element.new.track ≡ left de.tracks (Seq i) c.holds-held.result (is_err c.read-value.result) c.read-value.new.track = search rules in
     let refusal = rw c.in_err-value.was at (Gives-left g.D.Error.DeError.fault de.tracks c.holds-held.result (Seq i) data_view c.read-value.result (first (shape_view c.args.shape.now) (de.source c.in-Some.element)) c.args.track.now c.read-value.new.track c.leave_element.new.track c.holds-held.ensures c.read-value.ensures on_way_out) in
-    rw (p.1, p.2, taken.0) (IsRefused-whole _ _ _ _ _ _ _ (λ e. e) (Carries-and_then _ _) refusal)
+    let element = under (Seq i) (first (shape_view c.args.shape.now) (de.source c.in-Some.element)) in
+    rw (p.1, p.2, taken.0)
+    (IsRefused-whole de.tracks (g.D.Error.DeError.fault c.in_err-value.field-0.0) element (and_then element (λ d. given (Some d))) c.args.track.now c.args.track.now c.leave_element.new.track (λ e. e) (Carries-and_then element (λ d. given (Some d))) refusal)
 
 pub rows::read_each-returns-in_err-item : goal.rows::read_each-returns-in_err-item
 rows::read_each-returns-in_err-item g t c =
@@ -131,73 +170,201 @@ rows::read_row-reads-preserved g t c =
 
 -- the end of a row
 
-pub rows::visit_tuple-returns-in_err-items-in-Seq : goal.rows::visit_tuple-returns-in_err-items-in-Seq
-rows::visit_tuple-returns-in_err-items-in-Seq g t c =
+pub rows::read_whole-returns-in_err-items : goal.rows::read_whole-returns-in_err-items
+rows::read_whole-returns-in_err-items g t c =
     let p = err_from_is_err_and c.from_residual.result c.from_residual.ensures.1 in
     let de = g.D.Deserializer in
-    let begun = de.sequence c.in-Seq.seq in
+    let begun = de.sequence c.args.seq in
     let reads = readers_of c.args.shapes.now in
-    let whole = Carries-row (λ i left. unless (surplus begun.checks i left)) reads begun.left in
-    rw (p.1, p.2, c.in-Seq.is)
-    (IsRefused-whole de.tracks (g.D.Error.DeError.fault c.in_err-items-in-Seq.field-0.0) (one_each reads 0 begun.left) _ c.args.track.now c.args.track.now c.read_row.new.track (λ e. e) whole c.in_err-items-in-Seq.ensures.value)
+    let whole = Carries-row (refuse_rest begun.checks) reads begun.left in
+    rw (p.1, p.2)
+    (IsRefused-whole de.tracks (g.D.Error.DeError.fault c.in_err-items.field-0.0) (one_each reads 0 begun.left) _ c.args.track.now c.args.track.now c.read_row.new.track (λ e. e) whole c.in_err-items.ensures.value)
 
-pub rows::visit_tuple-returns-in_err-end_seq-in-Seq : goal.rows::visit_tuple-returns-in_err-end_seq-in-Seq
-rows::visit_tuple-returns-in_err-end_seq-in-Seq g t c =
-    let p = err_from_is_err_and c.from_residual-in_err-end_seq-in-Seq.result c.from_residual-in_err-end_seq-in-Seq.ensures.1 in
+pub rows::read_whole-returns-in_err-end_seq : goal.rows::read_whole-returns-in_err-end_seq
+rows::read_whole-returns-in_err-end_seq g t c =
+    let p = err_from_is_err_and c.from_residual-in_err-end_seq.result c.from_residual-in_err-end_seq.ensures.1 in
     let de = g.D.Deserializer in
     let fault = g.D.Error.DeError.fault in
-    let e = c.in_err-end_seq-in-Seq.field-0.0 in
-    let begun = de.sequence c.in-Seq.seq in
+    let e = c.in_err-end_seq.field-0.0 in
+    let begun = de.sequence c.args.seq in
     let shapes = c.args.shapes.now in
     let reads = readers_of shapes in
-    let taken = c.in_ok-items-in-Seq.ensures.taken ∙ sym (length-map shapes (λ a. first (shape_view a))) in
+    let taken = c.in_ok-items.ensures.taken ∙ sym (length-map shapes (λ a. first (shape_view a))) in
     let over = surplus begun.checks (length reads) (beyond reads begun.left) in
-    let ended = rw (c.in_ok-items-in-Seq.ensures.checks, taken, c.in_ok-items-in-Seq.ensures.left) at c.in_err-end_seq-in-Seq.ensures in
-    let whole = Carries-rest (λ i left. unless (surplus begun.checks i left)) reads begun.left (all_viewed c.in_ok-items-in-Seq.items) c.in_ok-items-in-Seq.ensures.value.0 in
-    rw (p.1, p.2, c.in-Seq.is)
-    (IsRefused-whole de.tracks (fault e) (unless over) _ c.args.track.now c.args.track.now c.read_row.new.track (λ e. e) whole (unless-refused fault de.tracks e over c.args.track.now c.read_row.new.track c.in_ok-items-in-Seq.ensures.value.1 ended))
+    let ended = rw (c.in_ok-items.ensures.checks, taken, c.in_ok-items.ensures.left) at c.in_err-end_seq.ensures in
+    let whole = Carries-rest (refuse_rest begun.checks) reads begun.left (all_viewed c.in_ok-items.items) c.in_ok-items.ensures.value.0 in
+    rw (p.1, p.2)
+    (IsRefused-whole de.tracks (fault e) (unless over) _ c.args.track.now c.args.track.now c.read_row.new.track (λ e. e) whole (unless-refused fault de.tracks e over c.args.track.now c.read_row.new.track c.in_ok-items.ensures.value.1 ended))
 
-pub rows::visit_tuple-returns-in_ok-end_seq-in-Seq : goal.rows::visit_tuple-returns-in_ok-end_seq-in-Seq
-rows::visit_tuple-returns-in_ok-end_seq-in-Seq g t c =
-    let begun = g.D.Deserializer.sequence c.in-Seq.seq in
+pub rows::read_whole-returns : goal.rows::read_whole-returns
+rows::read_whole-returns g t c =
+    let begun = g.D.Deserializer.sequence c.args.seq in
     let shapes = c.args.shapes.now in
     let reads = readers_of shapes in
-    let taken = c.in_ok-items-in-Seq.ensures.taken ∙ sym (length-map shapes (λ a. first (shape_view a))) in
-    let ended = rw (c.in_ok-items-in-Seq.ensures.checks, taken, c.in_ok-items-in-Seq.ensures.left) at c.in_ok-end_seq-in-Seq.ensures in
-    let accepted = unless-accepted g.D.Error.DeError.fault c.in_ok-end_seq-in-Seq.field-0 (surplus begun.checks (length reads) (beyond reads begun.left)) ended in (
-      rw (c.in-Seq.is, c.from_vec.ensures) (row_given (λ i left. unless (surplus begun.checks i left)) reads begun.left (all_viewed c.in_ok-items-in-Seq.items) c.in_ok-items-in-Seq.ensures.value.0 accepted),
-      c.in_ok-items-in-Seq.ensures.value.1,
+    let taken = c.in_ok-items.ensures.taken ∙ sym (length-map shapes (λ a. first (shape_view a))) in
+    let ended = rw (c.in_ok-items.ensures.checks, taken, c.in_ok-items.ensures.left) at c.in_ok-end_seq.ensures in
+    let accepted = unless-accepted g.D.Error.DeError.fault c.in_ok-end_seq.field-0 (surplus begun.checks (length reads) (beyond reads begun.left)) ended in (
+      (row_given (refuse_rest begun.checks) reads begun.left (all_viewed c.in_ok-items.items) c.in_ok-items.ensures.value.0 accepted),
+      c.in_ok-items.ensures.value.1,
     )
 
-pub rows::visit_prefix-returns-in_err-items-in-Seq : goal.rows::visit_prefix-returns-in_err-items-in-Seq
-rows::visit_prefix-returns-in_err-items-in-Seq g t c =
+pub rows::read_prefix-returns-in_err-items : goal.rows::read_prefix-returns-in_err-items
+rows::read_prefix-returns-in_err-items g t c =
     let p = err_from_is_err_and c.from_residual.result c.from_residual.ensures.1 in
     let de = g.D.Deserializer in
-    let begun = de.sequence c.in-Seq.seq in
+    let begun = de.sequence c.args.seq in
     let reads = readers_of c.args.shapes.now in
-    rw (p.1, p.2, c.in-Seq.is)
-    (IsRefused-whole de.tracks (g.D.Error.DeError.fault c.in_err-items-in-Seq.field-0.0) (one_each reads 0 begun.left) _ c.args.track.now c.args.track.now c.read_row.new.track (λ e. e) (Carries-row ignored_rest reads begun.left) c.in_err-items-in-Seq.ensures.value)
+    rw (p.1, p.2)
+    (IsRefused-whole de.tracks (g.D.Error.DeError.fault c.in_err-items.field-0.0) (one_each reads 0 begun.left) _ c.args.track.now c.args.track.now c.read_row.new.track (λ e. e) (Carries-row ignored_rest reads begun.left) c.in_err-items.ensures.value)
 
-pub rows::visit_prefix-returns-in_err-ignore_rest-in-Seq : goal.rows::visit_prefix-returns-in_err-ignore_rest-in-Seq
-rows::visit_prefix-returns-in_err-ignore_rest-in-Seq g t c =
-    let p = err_from_is_err_and c.from_residual-in_err-ignore_rest-in-Seq.result c.from_residual-in_err-ignore_rest-in-Seq.ensures.1 in
+pub rows::read_prefix-returns-in_err-ignore_rest : goal.rows::read_prefix-returns-in_err-ignore_rest
+rows::read_prefix-returns-in_err-ignore_rest g t c =
+    let p = err_from_is_err_and c.from_residual-in_err-ignore_rest.result c.from_residual-in_err-ignore_rest.ensures.1 in
     let de = g.D.Deserializer in
-    let begun = de.sequence c.in-Seq.seq in
+    let begun = de.sequence c.args.seq in
     let shapes = c.args.shapes.now in
     let reads = readers_of shapes in
-    let taken = c.in_ok-items-in-Seq.ensures.taken ∙ sym (length-map shapes (λ a. first (shape_view a))) in
-    let refusal = rw (taken, c.in_ok-items-in-Seq.ensures.left) at c.in_err-ignore_rest-in-Seq.ensures.value in
-    let whole = Carries-rest ignored_rest reads begun.left (all_viewed c.in_ok-items-in-Seq.items) c.in_ok-items-in-Seq.ensures.value.0 in
-    rw (p.1, p.2, c.in-Seq.is)
-    (IsRefused-whole de.tracks (g.D.Error.DeError.fault c.in_err-ignore_rest-in-Seq.field-0.0) (ignored_rest (length reads) (beyond reads begun.left)) _ c.args.track.now c.read_row.new.track c.ignore_rest.new.track c.in_ok-items-in-Seq.ensures.value.1 whole refusal)
+    let taken = c.in_ok-items.ensures.taken ∙ sym (length-map shapes (λ a. first (shape_view a))) in
+    let refusal = rw (taken, c.in_ok-items.ensures.left) at c.in_err-ignore_rest.ensures.value in
+    let whole = Carries-rest ignored_rest reads begun.left (all_viewed c.in_ok-items.items) c.in_ok-items.ensures.value.0 in
+    rw (p.1, p.2)
+    (IsRefused-whole de.tracks (g.D.Error.DeError.fault c.in_err-ignore_rest.field-0.0) (ignored_rest (length reads) (beyond reads begun.left)) _ c.args.track.now c.read_row.new.track c.ignore_rest.new.track c.in_ok-items.ensures.value.1 whole refusal)
 
-pub rows::visit_prefix-returns-in_ok-ignore_rest-in-Seq : goal.rows::visit_prefix-returns-in_ok-ignore_rest-in-Seq
-rows::visit_prefix-returns-in_ok-ignore_rest-in-Seq g t c =
-    let begun = g.D.Deserializer.sequence c.in-Seq.seq in
+pub rows::read_prefix-returns : goal.rows::read_prefix-returns
+rows::read_prefix-returns g t c =
+    let begun = g.D.Deserializer.sequence c.args.seq in
     let shapes = c.args.shapes.now in
     let reads = readers_of shapes in
-    let taken = c.in_ok-items-in-Seq.ensures.taken ∙ sym (length-map shapes (λ a. first (shape_view a))) in
-    let ignored = rw (taken, c.in_ok-items-in-Seq.ensures.left) at c.in_ok-ignore_rest-in-Seq.ensures.value in (
-      rw (c.in-Seq.is, c.from_vec.ensures) (row_given ignored_rest reads begun.left (all_viewed c.in_ok-items-in-Seq.items) c.in_ok-items-in-Seq.ensures.value.0 ignored.0),
-      λ e. ignored.1 (c.in_ok-items-in-Seq.ensures.value.1 e),
+    let taken = c.in_ok-items.ensures.taken ∙ sym (length-map shapes (λ a. first (shape_view a))) in
+    let ignored = rw (taken, c.in_ok-items.ensures.left) at c.in_ok-ignore_rest.ensures.value in (
+      (row_given ignored_rest reads begun.left (all_viewed c.in_ok-items.items) c.in_ok-items.ensures.value.0 ignored.0),
+      λ e. ignored.1 (c.in_ok-items.ensures.value.1 e),
     )
+
+-- an entry
+
+pub entries::read_key-returns-clause-value : goal.entries::read_key-returns-clause-value
+entries::read_key-returns-clause-value g t c =
+    let de = g.D.Deserializer in
+    let key = de.source c.args.key in
+    let own = (de.table c.visit_key-read.new.map).caught in
+    let on_way_out : c.leave_key.new.track ≡ left_key de.tracks (entry_segment own) c.holds-held.result (is_err c.visit_key-read.result) c.visit_key-read.new.track = search rules in
+    Gives-left_key g.D.Error.DeError.fault de.tracks c.holds-held.result own (text_of (offer_of key (asks (shape_view c.args.shape.now)))) data_view c.visit_key-read.result (first (shape_view c.args.shape.now) key) c.args.track.now c.visit_key-read.new.track c.leave_key.new.track c.holds-held.ensures c.visit_key-read.ensures.caught c.visit_key-read.ensures.value on_way_out
+
+pub entries::read_value-returns-clause-value : goal.entries::read_value-returns-clause-value
+entries::read_value-returns-clause-value g t c segment same v waits =
+    let de = g.D.Deserializer in
+    let own = entry_segment (de.table c.args.map.now).caught in
+    let source = de.source c.in_ok-value.value in
+    let taken = rw waits at c.in_ok-value.ensures.takes in
+    let at_hand : v ≡ source = cc in
+    let on_way_out : c.leave_value.new.track ≡ left de.tracks own c.holds-held.result (is_err c.read-read.result) c.read-read.new.track = search rules in
+    rw at_hand (Gives-value g.D.Error.DeError.fault de.tracks c.holds-held.result own segment data_view c.read-read.result (first (shape_view c.args.shape.now) source) c.args.track.now c.read-read.new.track c.leave_value.new.track c.holds-held.ensures same c.read-read.ensures on_way_out)
+
+pub entries::read_entry-returns-in_err-key-clause-value : goal.entries::read_entry-returns-in_err-key-clause-value
+entries::read_entry-returns-in_err-key-clause-value g t c v waits =
+    let p = err_from_is_err_and c.from_residual.result c.from_residual.ensures.1 in
+    let de = g.D.Deserializer in
+    let shape = shape_view c.args.shapes.now.key in
+    let segment = segment_of_key (asks shape) (de.source c.args.key) in
+    let key = first shape (de.source c.args.key) in
+    let value = first (shape_view c.args.shapes.now.value) v in
+    rw (p.1, p.2)
+    (IsRefused-whole de.tracks (g.D.Error.DeError.fault c.in_err-key.field-0.0) (at_key segment key) (pair_of segment key value) c.args.track.now c.args.track.now c.read_key.new.track (λ e. e) (Carries-and_then (at_key segment key) (λ k. and_then (under segment value) (λ x. both k x))) c.in_err-key.ensures.value)
+
+pub entries::read_entry-returns-in_err-value-clause-value : goal.entries::read_entry-returns-in_err-value-clause-value
+entries::read_entry-returns-in_err-value-clause-value g t c v waits =
+    let p = err_from_is_err_and c.from_residual-in_err-value.result c.from_residual-in_err-value.ensures.1 in
+    let de = g.D.Deserializer in
+    let shape = shape_view c.args.shapes.now.key in
+    let segment = segment_of_key (asks shape) (de.source c.args.key) in
+    let key = first shape (de.source c.args.key) in
+    let value = first (shape_view c.args.shapes.now.value) v in
+    let read = c.in_ok-key.ensures.value in
+    let waiting : (de.table c.read_key.new.map).waiting ≡ (de.table c.args.map.now).waiting = search rules in
+    let same : de.tracks ≡ true → segment ≡ entry_segment (de.table c.read_key.new.map).caught = λ t. search rules in
+    rw (p.1, p.2)
+    (IsRefused-whole de.tracks (g.D.Error.DeError.fault c.in_err-value.field-0.0) (under segment value) (pair_of segment key value) c.args.track.now c.read_key.new.track c.read_value.new.track read.1 (Carries-value segment key value (data_view c.in_ok-key.key) read.0) (c.in_err-value.ensures.value segment same v (waiting ∙ waits)))
+
+pub entries::read_entry-returns-clause-value : goal.entries::read_entry-returns-clause-value
+entries::read_entry-returns-clause-value g t c v waits =
+    let de = g.D.Deserializer in
+    let shape = shape_view c.args.shapes.now.key in
+    let segment = segment_of_key (asks shape) (de.source c.args.key) in
+    let key = first shape (de.source c.args.key) in
+    let value = first (shape_view c.args.shapes.now.value) v in
+    let read = c.in_ok-key.ensures.value in
+    let waiting : (de.table c.read_key.new.map).waiting ≡ (de.table c.args.map.now).waiting = search rules in
+    let same : de.tracks ≡ true → segment ≡ entry_segment (de.table c.read_key.new.map).caught = λ t. search rules in
+    let came = c.in_ok-value.ensures.value segment same v (waiting ∙ waits) in (
+      pair_given segment key value (data_view c.in_ok-key.key) (data_view c.in_ok-value.value) read.0 came.0,
+      λ e. came.1 (read.1 e),
+    )
+
+-- a field
+
+pub structs::put-returns-then-is_some-clause-value : goal.structs::put-returns-then-is_some-clause-value
+structs::put-returns-then-is_some-clause-value g t c segment same v waits =
+    let f = c.args.fields.now in
+    put_taken g.D.Deserializer.tracks segment v f.names f.shapes.items c.args.slots.now.items c.args.place (g.D.Error.DeError.fault c.duplicate.result) c.index.result.now c.args.track.now c.requires.named c.requires.shaped c.requires.slot c.index.ensures (sym c.is_some.ensures ∙ c.if-is_some.true) c.duplicate.ensures
+
+pub structs::put-returns-in_err-value-clause-value : goal.structs::put-returns-in_err-value-clause-value
+structs::put-returns-in_err-value-clause-value g t c segment same v waits =
+    let p = err_from_is_err_and c.from_residual.result c.from_residual.ensures.1 in
+    let de = g.D.Deserializer in
+    let f = c.args.fields.now in
+    let slots = c.args.slots.now.items in
+    let a = c.index-2.result.now in
+    let value = under segment (first (shape_view a) v) in
+    let opened = put_open de.tracks segment v f.names f.shapes.items slots c.args.place c.index.result.now a c.requires.named c.requires.shaped c.requires.slot c.index.ensures (sym c.is_some.ensures ∙ c.if-is_some.false) c.index-2.ensures in
+    let next = put_next de.tracks segment v f.names f.shapes.items slots c.args.place in
+    rw (p.1, p.2, opened)
+    (IsRefused-whole de.tracks (g.D.Error.DeError.fault c.in_err-value.field-0.0) value (and_then value next) c.args.track.now c.args.track.now c.read_value.new.track (λ e. e) (Carries-and_then value next) (c.in_err-value.ensures.value segment same v waits))
+
+pub structs::put-returns-clause-value : goal.structs::put-returns-clause-value
+structs::put-returns-clause-value g t c segment same v waits =
+    let de = g.D.Deserializer in
+    let f = c.args.fields.now in
+    let slots = c.args.slots.now.items in
+    let a = c.index-2.result.now in
+    let value = under segment (first (shape_view a) v) in
+    let opened = put_open de.tracks segment v f.names f.shapes.items slots c.args.place c.index.result.now a c.requires.named c.requires.shaped c.requires.slot c.index.ensures (sym c.is_some.ensures ∙ c.if-is_some.false) c.index-2.ensures in
+    let read = c.in_ok-value.ensures.value segment same v waits in
+    (opened ∙ put_given slots c.args.place value c.in_ok-value.value read.0, read.1)
+
+pub structs::read_field-returns-in-Some-clause-value : goal.structs::read_field-returns-in-Some-clause-value
+structs::read_field-returns-in-Some-clause-value g t c v waits =
+    let de = g.D.Deserializer in
+    let fields = fields_in c.args.fields.now in
+    let key = de.source c.args.key in
+    let segment = segment_of_key identifier key in
+    let place = at_key segment (place_of_key c.args.strict fields (offer_of key identifier)) in
+    let read = rw c.in-Some.is at c.in_ok-place.ensures.value in
+    let waiting : (de.table c.read_place.new.map).waiting ≡ (de.table c.args.map.now).waiting = search rules in
+    let same : de.tracks ≡ true → segment ≡ entry_segment (de.table c.read_place.new.map).caught = λ t. search rules in
+    Gives-and_then g.D.Error.DeError.fault de.tracks (λ u. slots_view c.put.new.slots) c.put.result place (put_value ignored fields segment v (slots_view c.args.slots.now)) (Some c.in-Some.place) c.args.track.now c.read_place.new.track c.put.new.track read.0 read.1 (c.put.ensures.value segment same v (waiting ∙ waits))
+
+pub structs::read_field-returns-in-None-clause-value : goal.structs::read_field-returns-in-None-clause-value
+structs::read_field-returns-in-None-clause-value g t c v waits =
+    let de = g.D.Deserializer in
+    let fault = g.D.Error.DeError.fault in
+    let fields = fields_in c.args.fields.now in
+    let slots = slots_view c.args.slots.now in
+    let key = de.source c.args.key in
+    let segment = segment_of_key identifier key in
+    let place = at_key segment (place_of_key c.args.strict fields (offer_of key identifier)) in
+    let read = rw c.in-None.is at c.in_ok-place.ensures.value in
+    let waiting : (de.table c.read_place.new.map).waiting ≡ (de.table c.args.map.now).waiting = search rules in
+    let same : de.tracks ≡ true → segment ≡ entry_segment (de.table c.read_place.new.map).caught = λ t. search rules in
+    let dropped = Gives-dropped fault de.tracks c.ignore_value.result (under segment (ignored v)) slots c.read_place.new.track c.ignore_value.new.track (c.ignore_value.ensures.value segment same v (waiting ∙ waits)) in
+    Gives-and_then fault de.tracks (λ u. slots) c.ignore_value.result place (put_value ignored fields segment v slots) None c.args.track.now c.read_place.new.track c.ignore_value.new.track read.0 read.1 dropped
+
+pub structs::read_fields-reads-init : goal.structs::read_fields-reads-init
+structs::read_fields-reads-init g t c =
+    let fields = fields_in c.args.fields.now in
+    let empty : c.in-Ok.slots.items ≡ replicate (length fields) None = c.in-Ok.ensures ∙ ap (λ n. replicate n None) c.len.ensures in
+    record {
+      outcome = rw (empty, all_empty (length fields)) refl;
+      clear = λ e. e;
+      slots = rw empty (length-replicate (length fields) None);
+    }

@@ -1,8 +1,9 @@
-use Rattle.std.proofs.Common.{◌≡◌, length, drop}
+use Rattle.std.proofs.Common.{◌≡◌, [], length, drop, replicate, None}
 use Rattle.data_core.specs.Tracking.{clear}
-use Rattle.data_core.specs.Source.{count}
-use Rattle.shape.specs.First.{first, each}
-use Rattle.shape.specs.View.{shape_view, readers_of}
+use Rattle.data_core.specs.Source.{count, count_entries}
+use Rattle.shape.specs.First.{asks, first, each, each_entry}
+use Rattle.shape.specs.Fields.{each_field}
+use Rattle.shape.specs.View.{shape_view, readers_of, fields_in, slots_view}
 use Rattle.shape.specs.Steps.{one_each, beyond}
 use Rattle.shape.proofs.Steps.{front}
 use Rattle.shape.proofs.+read.Given as goal
@@ -31,3 +32,28 @@ invariant-rows::read_row-reads g l =
       taken : now.taken ≡ l.shape-index;
       checks : now.checks ≡ before.checks;
     }
+
+abbrev pub invariant-entries::read_entries-reads : goal.invariant-entries::read_entries-reads
+invariant-entries::read_entries-reads g l =
+    let key = shape_view l.shapes.key in
+    let rest = each_entry (asks key) (first key) (first (shape_view l.shapes.value)) in
+    let table = g.D.Deserializer.table in record {
+      outcome : rest [] (table l.fn.map).left ≡ rest l.pairs (table l.map).left;
+      clear : l.fn.track ≡ clear → l.track ≡ clear;
+    }
+
+abbrev pub decreases-entries::read_entries-reads : goal.decreases-entries::read_entries-reads
+decreases-entries::read_entries-reads g l = count_entries (g.D.Deserializer.table l.map).left
+
+abbrev pub invariant-structs::read_fields-reads : goal.invariant-structs::read_fields-reads
+invariant-structs::read_fields-reads g l =
+    let fields = fields_in l.fields in
+    let rest = each_field l.strict fields in
+    let table = g.D.Deserializer.table in record {
+      outcome : rest (replicate (length fields) None) (table l.fn.map).left ≡ rest (slots_view l.slots) (table l.map).left;
+      clear : l.fn.track ≡ clear → l.track ≡ clear;
+      slots : length l.slots.items ≡ length fields;
+    }
+
+abbrev pub decreases-structs::read_fields-reads : goal.decreases-structs::read_fields-reads
+decreases-structs::read_fields-reads g l = count_entries (g.D.Deserializer.table l.map).left

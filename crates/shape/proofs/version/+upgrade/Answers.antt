@@ -1,6 +1,6 @@
 use Rattle.std.proofs.Common.{◌≡◌, ◌∙◌, ◌<◌, ℕ, ◌+◌, List, [], ◌∷◌, length, get_or, set, take, map, ap, arith, rules}
 use Rattle.std.proofs.lemmas.List.{take_more_set, take-set, map-append, map_more, length-set}
-use Rattle.shape.specs.declared.data.Shape.{Shape}
+use Rattle.shape.specs.declared.shapes.Shape.{Shape}
 use Rattle.shape.specs.Upgraded.{upgraded}
 use Rattle.shape.specs.View.{shape_view}
 use Rattle.shape.proofs.version.+upgrade.Goals as goal

@@ -1,0 +1,78 @@
+//! The fields of a struct.
+ghost use Rattle.std.specs.Prelude.{◌≡◌, ◌++◌, ◌∷◌, ◌<◌, ◌==◌, [], Some, length, slice_get, OnOk, IfErr};
+ghost use Rattle.shape.specs.Fields.{place_of};
+ghost use Rattle.shape.specs.View.{fields_in};
+
+use crate::shapes::{Fields, Shape};
+use data_core::{Names, Text};
+use std::alloc::Global;
+
+impl Fields {
+    /// No fields. Takes no memory.
+    pub fn new(alloc: Global) -> Fields
+        ensures names { result.names ≡ [] }
+        ensures shapes { result.shapes.items ≡ [] }
+    {
+        Fields {
+            names: Names::new(alloc),
+            shapes: Vec::new(alloc),
+        }
+    }
+
+    /// Adds a field at the end. It fails for want of memory alone: both parts then come back, and the
+    /// fields are as before.
+    pub fn push(&mut self, name: Text, shape: Shape) -> Result<(), (Text, Shape)>
+        ensures names { OnOk result (self.new.names ≡ self.old.names ++ name ∷ []) }
+        ensures shapes { OnOk result (self.new.shapes.items ≡ self.old.shapes.items ++ shape ∷ []) }
+        ensures back { IfErr result (λ back. (back.0 ≡ name) × (back.1 ≡ shape)) }
+        ensures unchanged { IfErr result (λ back. (self.new.names ≡ self.old.names) × (self.new.shapes.items ≡ self.old.shapes.items)) }
+    {
+        let last = self.shapes.len();
+        if let Err(failed) = self.shapes.push(shape) {
+            return Err((name, failed.value));
+        }
+        match self.names.push(name) {
+            Ok(()) => Ok(()),
+            Err(name) => Err((name, self.shapes.remove(last))),
+        }
+    }
+
+    /// How many fields there are. Takes no memory.
+    #[tactic(auto, using(crate::proofs::Places::length_fields))]
+    pub fn len(&self) -> usize
+        ensures { result ≡ length (fields_in self.now) }
+    {
+        self.names.len().min(self.shapes.len())
+    }
+
+    /// Whether there is no field. Takes no memory.
+    pub fn is_empty(&self) -> bool
+        ensures { result ≡ (length (fields_in self.now) == 0) }
+    {
+        self.len() == 0
+    }
+
+    /// The names of the fields in order, lent. Takes no memory.
+    pub fn names(&self) -> &Names
+        ensures { result.now ≡ self.now.names }
+    {
+        &self.names
+    }
+
+    /// The shapes of the fields in order, lent. Takes no memory.
+    pub fn shapes(&self) -> &[Shape]
+        ensures { result.now ≡ self.now.shapes.items }
+    {
+        self.shapes.as_slice()
+    }
+
+    /// The place of the first field of a name, counted from 0. Takes no memory.
+    pub fn find(&self, name: &str) -> Option<usize>
+        ensures { result ≡ place_of name.now (fields_in self.now) }
+    {
+        match self.names.find(name) {
+            Some(place) if place < self.shapes.len() => Some(place),
+            _ => None,
+        }
+    }
+}
