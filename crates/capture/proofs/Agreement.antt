@@ -1,15 +1,21 @@
 -- Over the source of a tree, the first outcome of a shape is that of the tree.
-use Rattle.std.proofs.Common.{◌≡◌, ◌∙◌, ℕ, ◌+◌, true, false, List, [], pos, negsuc, refl, ap}
+use Rattle.std.proofs.Common.{◌≡◌, ◌∙◌, ℕ, zero, suc, ◌+◌, Bool, true, false, List, [], ◌∷◌, Option, Some, None, slice_get, encode_utf8, pos, negsuc, refl, ap}
 use Rattle.data_core.specs.declared.fault.Fault.TheVariants.{InvalidLength}
-use Rattle.data_core.specs.Node.{Node, Nodes, no_nodes, plain, wrapped, of_node, of_nodes}
+use Rattle.data_core.specs.declared.path.Segment.{Segment}
+use Rattle.data_core.specs.Ask.{Ask, identifier}
+use Rattle.data_core.specs.Node.{Node, Nodes, no_nodes, Pairs, no_pairs, pair, plain, wrapped, inside, of_node, of_nodes, of_pairs}
 use Rattle.data_core.specs.Node as node
-use Rattle.data_core.specs.Source.{Source, count, resolved}
+use Rattle.data_core.specs.Source.{Source, count, resolved, offer_of}
 use Rattle.data_core.specs.Sequence.{surplus}
+use Rattle.data_core.specs.Table.{text_of as text_caught, entry_segment, segment_of_key}
+use Rattle.data_core.specs.Pairs.{put}
 use Rattle.data_core.specs.Outcome.{Outcome, given, refused, and_then}
-use Rattle.data_std.specs.Ignored.{ignored, ignored_rest}
-use Rattle.shape.specs.Shape.{Shape, boolean, u8, u16, u32, u64, i8, i16, i32, i64, character, text, bytes, unit, unit_struct, option, seq, tuple, tuple_struct, prefix, prefix_struct, Shapes, no_shapes, shape, Data}
-use Rattle.shape.specs.First.{first, readers, boolean_of, unsigned_of, signed_of, character_of, text_of, bytes_of, unit_of, option_of, each, seq_of, row_of, unless, tuple_of, prefix_of}
-use Rattle.capture.specs.FirstTree.{first_tree, tree_readers, integer_in, unsigned_up_to, signed_up_to, in_option, each_tree, number, left_over, row_tree, in_seq}
+use Rattle.data_std.specs.Ignored.{ignored, ignored_rest, ignored_entries, at_key}
+use Rattle.shape.specs.Fields.{Field, fields_of, place_of, known, place_of_key, put_field, put_value, no_values, field_step, each_field, filled, completed, named}
+use Rattle.shape.specs.DataOrder.{data_order}
+use Rattle.shape.specs.Shape.{Shape, boolean, u8, u16, u32, u64, i8, i16, i32, i64, character, text, bytes, unit, unit_struct, option, seq, tuple, tuple_struct, prefix, prefix_struct, map, newtype, struct, strict, loose, Shapes, no_shapes, shape, Data, newtype_data}
+use Rattle.shape.specs.First.{first, asks, readers, boolean_of, unsigned_of, signed_of, character_of, text_of, bytes_of, unit_of, option_of, each, seq_of, row_of, unless, tuple_of, prefix_of, pair_of, each_entry, map_of, newtype_of, rest_of_row, struct_of}
+use Rattle.capture.specs.FirstTree.{first_tree, tree_readers, integer_in, unsigned_up_to, signed_up_to, in_option, each_tree, number, left_over, row_tree, in_seq, text_in, entry_at, each_pair, in_map, held_in, place_in, dropped, named_pair, each_named, named_tree, in_struct}
 
 -- what a reader makes of a node as it is shown for every ask but an option's
 record Agrees (t : Node) : Type 0 where
@@ -22,30 +28,34 @@ record Agrees (t : Node) : Type 0 where
   units : unit_of (plain t) ≡ first_tree unit t
   unit_structs : (name : List ℕ) → unit_of (plain t) ≡ first_tree (unit_struct name) t
   sequences : (read : Source → Outcome Data) → seq_of read (plain t) ≡ in_seq (λ ts. each read 0 (of_nodes ts)) t
+  maps : (a : Ask) (key value : Source → Outcome Data) → map_of a key value (plain t) ≡ in_map (λ ts. each_entry a key value [] (of_pairs ts)) t
+  structs : (whole exact : Bool) (fields : List (Field Source)) (reads : List (Source → Outcome Data)) → struct_of whole exact fields reads (plain t) ≡ in_struct (λ ts. row_of (rest_of_row whole true) reads 0 (of_nodes ts)) (λ ts. named exact fields (of_pairs ts)) t
   tuples : (reads : List (Source → Outcome Data)) → tuple_of reads (plain t) ≡ in_seq (λ ts. row_of (λ i left. unless (surplus true i left)) reads 0 (of_nodes ts)) t
   prefixes : (reads : List (Source → Outcome Data)) → prefix_of reads (plain t) ≡ in_seq (λ ts. row_of ignored_rest reads 0 (of_nodes ts)) t
 
 agrees : (t : Node) → Agrees t
-agrees (node.boolean b) = record { booleans = refl; unsigned_integers = λ g. refl; signed_integers = λ g. refl; characters = refl; texts = refl; byte_strings = refl; units = refl; unit_structs = λ name. refl; sequences = λ read. refl; tuples = λ reads. refl; prefixes = λ reads. refl }
-agrees (node.u8 n) = record { booleans = refl; unsigned_integers = λ g. refl; signed_integers = λ g. refl; characters = refl; texts = refl; byte_strings = refl; units = refl; unit_structs = λ name. refl; sequences = λ read. refl; tuples = λ reads. refl; prefixes = λ reads. refl }
-agrees (node.u16 n) = record { booleans = refl; unsigned_integers = λ g. refl; signed_integers = λ g. refl; characters = refl; texts = refl; byte_strings = refl; units = refl; unit_structs = λ name. refl; sequences = λ read. refl; tuples = λ reads. refl; prefixes = λ reads. refl }
-agrees (node.u32 n) = record { booleans = refl; unsigned_integers = λ g. refl; signed_integers = λ g. refl; characters = refl; texts = refl; byte_strings = refl; units = refl; unit_structs = λ name. refl; sequences = λ read. refl; tuples = λ reads. refl; prefixes = λ reads. refl }
-agrees (node.u64 n) = record { booleans = refl; unsigned_integers = λ g. refl; signed_integers = λ g. refl; characters = refl; texts = refl; byte_strings = refl; units = refl; unit_structs = λ name. refl; sequences = λ read. refl; tuples = λ reads. refl; prefixes = λ reads. refl }
-agrees (node.i8 (pos n)) = record { booleans = refl; unsigned_integers = λ g. refl; signed_integers = λ g. refl; characters = refl; texts = refl; byte_strings = refl; units = refl; unit_structs = λ name. refl; sequences = λ read. refl; tuples = λ reads. refl; prefixes = λ reads. refl }
-agrees (node.i8 (negsuc n)) = record { booleans = refl; unsigned_integers = λ g. refl; signed_integers = λ g. refl; characters = refl; texts = refl; byte_strings = refl; units = refl; unit_structs = λ name. refl; sequences = λ read. refl; tuples = λ reads. refl; prefixes = λ reads. refl }
-agrees (node.i16 (pos n)) = record { booleans = refl; unsigned_integers = λ g. refl; signed_integers = λ g. refl; characters = refl; texts = refl; byte_strings = refl; units = refl; unit_structs = λ name. refl; sequences = λ read. refl; tuples = λ reads. refl; prefixes = λ reads. refl }
-agrees (node.i16 (negsuc n)) = record { booleans = refl; unsigned_integers = λ g. refl; signed_integers = λ g. refl; characters = refl; texts = refl; byte_strings = refl; units = refl; unit_structs = λ name. refl; sequences = λ read. refl; tuples = λ reads. refl; prefixes = λ reads. refl }
-agrees (node.i32 (pos n)) = record { booleans = refl; unsigned_integers = λ g. refl; signed_integers = λ g. refl; characters = refl; texts = refl; byte_strings = refl; units = refl; unit_structs = λ name. refl; sequences = λ read. refl; tuples = λ reads. refl; prefixes = λ reads. refl }
-agrees (node.i32 (negsuc n)) = record { booleans = refl; unsigned_integers = λ g. refl; signed_integers = λ g. refl; characters = refl; texts = refl; byte_strings = refl; units = refl; unit_structs = λ name. refl; sequences = λ read. refl; tuples = λ reads. refl; prefixes = λ reads. refl }
-agrees (node.i64 (pos n)) = record { booleans = refl; unsigned_integers = λ g. refl; signed_integers = λ g. refl; characters = refl; texts = refl; byte_strings = refl; units = refl; unit_structs = λ name. refl; sequences = λ read. refl; tuples = λ reads. refl; prefixes = λ reads. refl }
-agrees (node.i64 (negsuc n)) = record { booleans = refl; unsigned_integers = λ g. refl; signed_integers = λ g. refl; characters = refl; texts = refl; byte_strings = refl; units = refl; unit_structs = λ name. refl; sequences = λ read. refl; tuples = λ reads. refl; prefixes = λ reads. refl }
-agrees (node.character c) = record { booleans = refl; unsigned_integers = λ g. refl; signed_integers = λ g. refl; characters = refl; texts = refl; byte_strings = refl; units = refl; unit_structs = λ name. refl; sequences = λ read. refl; tuples = λ reads. refl; prefixes = λ reads. refl }
-agrees (node.string s) = record { booleans = refl; unsigned_integers = λ g. refl; signed_integers = λ g. refl; characters = refl; texts = refl; byte_strings = refl; units = refl; unit_structs = λ name. refl; sequences = λ read. refl; tuples = λ reads. refl; prefixes = λ reads. refl }
-agrees node.unit = record { booleans = refl; unsigned_integers = λ g. refl; signed_integers = λ g. refl; characters = refl; texts = refl; byte_strings = refl; units = refl; unit_structs = λ name. refl; sequences = λ read. refl; tuples = λ reads. refl; prefixes = λ reads. refl }
-agrees node.none = record { booleans = refl; unsigned_integers = λ g. refl; signed_integers = λ g. refl; characters = refl; texts = refl; byte_strings = refl; units = refl; unit_structs = λ name. refl; sequences = λ read. refl; tuples = λ reads. refl; prefixes = λ reads. refl }
-agrees (node.some t) = record { booleans = refl; unsigned_integers = λ g. refl; signed_integers = λ g. refl; characters = refl; texts = refl; byte_strings = refl; units = refl; unit_structs = λ name. refl; sequences = λ read. refl; tuples = λ reads. refl; prefixes = λ reads. refl }
-agrees (node.seq ts) = record { booleans = refl; unsigned_integers = λ g. refl; signed_integers = λ g. refl; characters = refl; texts = refl; byte_strings = refl; units = refl; unit_structs = λ name. refl; sequences = λ read. refl; tuples = λ reads. refl; prefixes = λ reads. refl }
-agrees (node.bytes b) = record { booleans = refl; unsigned_integers = λ g. refl; signed_integers = λ g. refl; characters = refl; texts = refl; byte_strings = refl; units = refl; unit_structs = λ name. refl; sequences = λ read. refl; tuples = λ reads. refl; prefixes = λ reads. refl }
+agrees (node.boolean b) = record { booleans = refl; unsigned_integers = λ g. refl; signed_integers = λ g. refl; characters = refl; texts = refl; byte_strings = refl; units = refl; unit_structs = λ name. refl; sequences = λ read. refl; maps = λ a key value. refl; structs = λ whole exact fields reads. refl; tuples = λ reads. refl; prefixes = λ reads. refl }
+agrees (node.u8 n) = record { booleans = refl; unsigned_integers = λ g. refl; signed_integers = λ g. refl; characters = refl; texts = refl; byte_strings = refl; units = refl; unit_structs = λ name. refl; sequences = λ read. refl; maps = λ a key value. refl; structs = λ whole exact fields reads. refl; tuples = λ reads. refl; prefixes = λ reads. refl }
+agrees (node.u16 n) = record { booleans = refl; unsigned_integers = λ g. refl; signed_integers = λ g. refl; characters = refl; texts = refl; byte_strings = refl; units = refl; unit_structs = λ name. refl; sequences = λ read. refl; maps = λ a key value. refl; structs = λ whole exact fields reads. refl; tuples = λ reads. refl; prefixes = λ reads. refl }
+agrees (node.u32 n) = record { booleans = refl; unsigned_integers = λ g. refl; signed_integers = λ g. refl; characters = refl; texts = refl; byte_strings = refl; units = refl; unit_structs = λ name. refl; sequences = λ read. refl; maps = λ a key value. refl; structs = λ whole exact fields reads. refl; tuples = λ reads. refl; prefixes = λ reads. refl }
+agrees (node.u64 n) = record { booleans = refl; unsigned_integers = λ g. refl; signed_integers = λ g. refl; characters = refl; texts = refl; byte_strings = refl; units = refl; unit_structs = λ name. refl; sequences = λ read. refl; maps = λ a key value. refl; structs = λ whole exact fields reads. refl; tuples = λ reads. refl; prefixes = λ reads. refl }
+agrees (node.i8 (pos n)) = record { booleans = refl; unsigned_integers = λ g. refl; signed_integers = λ g. refl; characters = refl; texts = refl; byte_strings = refl; units = refl; unit_structs = λ name. refl; sequences = λ read. refl; maps = λ a key value. refl; structs = λ whole exact fields reads. refl; tuples = λ reads. refl; prefixes = λ reads. refl }
+agrees (node.i8 (negsuc n)) = record { booleans = refl; unsigned_integers = λ g. refl; signed_integers = λ g. refl; characters = refl; texts = refl; byte_strings = refl; units = refl; unit_structs = λ name. refl; sequences = λ read. refl; maps = λ a key value. refl; structs = λ whole exact fields reads. refl; tuples = λ reads. refl; prefixes = λ reads. refl }
+agrees (node.i16 (pos n)) = record { booleans = refl; unsigned_integers = λ g. refl; signed_integers = λ g. refl; characters = refl; texts = refl; byte_strings = refl; units = refl; unit_structs = λ name. refl; sequences = λ read. refl; maps = λ a key value. refl; structs = λ whole exact fields reads. refl; tuples = λ reads. refl; prefixes = λ reads. refl }
+agrees (node.i16 (negsuc n)) = record { booleans = refl; unsigned_integers = λ g. refl; signed_integers = λ g. refl; characters = refl; texts = refl; byte_strings = refl; units = refl; unit_structs = λ name. refl; sequences = λ read. refl; maps = λ a key value. refl; structs = λ whole exact fields reads. refl; tuples = λ reads. refl; prefixes = λ reads. refl }
+agrees (node.i32 (pos n)) = record { booleans = refl; unsigned_integers = λ g. refl; signed_integers = λ g. refl; characters = refl; texts = refl; byte_strings = refl; units = refl; unit_structs = λ name. refl; sequences = λ read. refl; maps = λ a key value. refl; structs = λ whole exact fields reads. refl; tuples = λ reads. refl; prefixes = λ reads. refl }
+agrees (node.i32 (negsuc n)) = record { booleans = refl; unsigned_integers = λ g. refl; signed_integers = λ g. refl; characters = refl; texts = refl; byte_strings = refl; units = refl; unit_structs = λ name. refl; sequences = λ read. refl; maps = λ a key value. refl; structs = λ whole exact fields reads. refl; tuples = λ reads. refl; prefixes = λ reads. refl }
+agrees (node.i64 (pos n)) = record { booleans = refl; unsigned_integers = λ g. refl; signed_integers = λ g. refl; characters = refl; texts = refl; byte_strings = refl; units = refl; unit_structs = λ name. refl; sequences = λ read. refl; maps = λ a key value. refl; structs = λ whole exact fields reads. refl; tuples = λ reads. refl; prefixes = λ reads. refl }
+agrees (node.i64 (negsuc n)) = record { booleans = refl; unsigned_integers = λ g. refl; signed_integers = λ g. refl; characters = refl; texts = refl; byte_strings = refl; units = refl; unit_structs = λ name. refl; sequences = λ read. refl; maps = λ a key value. refl; structs = λ whole exact fields reads. refl; tuples = λ reads. refl; prefixes = λ reads. refl }
+agrees (node.character c) = record { booleans = refl; unsigned_integers = λ g. refl; signed_integers = λ g. refl; characters = refl; texts = refl; byte_strings = refl; units = refl; unit_structs = λ name. refl; sequences = λ read. refl; maps = λ a key value. refl; structs = λ whole exact fields reads. refl; tuples = λ reads. refl; prefixes = λ reads. refl }
+agrees (node.string s) = record { booleans = refl; unsigned_integers = λ g. refl; signed_integers = λ g. refl; characters = refl; texts = refl; byte_strings = refl; units = refl; unit_structs = λ name. refl; sequences = λ read. refl; maps = λ a key value. refl; structs = λ whole exact fields reads. refl; tuples = λ reads. refl; prefixes = λ reads. refl }
+agrees node.unit = record { booleans = refl; unsigned_integers = λ g. refl; signed_integers = λ g. refl; characters = refl; texts = refl; byte_strings = refl; units = refl; unit_structs = λ name. refl; sequences = λ read. refl; maps = λ a key value. refl; structs = λ whole exact fields reads. refl; tuples = λ reads. refl; prefixes = λ reads. refl }
+agrees node.none = record { booleans = refl; unsigned_integers = λ g. refl; signed_integers = λ g. refl; characters = refl; texts = refl; byte_strings = refl; units = refl; unit_structs = λ name. refl; sequences = λ read. refl; maps = λ a key value. refl; structs = λ whole exact fields reads. refl; tuples = λ reads. refl; prefixes = λ reads. refl }
+agrees (node.some t) = record { booleans = refl; unsigned_integers = λ g. refl; signed_integers = λ g. refl; characters = refl; texts = refl; byte_strings = refl; units = refl; unit_structs = λ name. refl; sequences = λ read. refl; maps = λ a key value. refl; structs = λ whole exact fields reads. refl; tuples = λ reads. refl; prefixes = λ reads. refl }
+agrees (node.newtype t) = record { booleans = refl; unsigned_integers = λ g. refl; signed_integers = λ g. refl; characters = refl; texts = refl; byte_strings = refl; units = refl; unit_structs = λ name. refl; sequences = λ read. refl; maps = λ a key value. refl; structs = λ whole exact fields reads. refl; tuples = λ reads. refl; prefixes = λ reads. refl }
+agrees (node.seq ts) = record { booleans = refl; unsigned_integers = λ g. refl; signed_integers = λ g. refl; characters = refl; texts = refl; byte_strings = refl; units = refl; unit_structs = λ name. refl; sequences = λ read. refl; maps = λ a key value. refl; structs = λ whole exact fields reads. refl; tuples = λ reads. refl; prefixes = λ reads. refl }
+agrees (node.map ts) = record { booleans = refl; unsigned_integers = λ g. refl; signed_integers = λ g. refl; characters = refl; texts = refl; byte_strings = refl; units = refl; unit_structs = λ name. refl; sequences = λ read. refl; maps = λ a key value. refl; structs = λ whole exact fields reads. refl; tuples = λ reads. refl; prefixes = λ reads. refl }
+agrees (node.bytes b) = record { booleans = refl; unsigned_integers = λ g. refl; signed_integers = λ g. refl; characters = refl; texts = refl; byte_strings = refl; units = refl; unit_structs = λ name. refl; sequences = λ read. refl; maps = λ a key value. refl; structs = λ whole exact fields reads. refl; tuples = λ reads. refl; prefixes = λ reads. refl }
 
 -- the same for an option's ask
 option_agrees : (read : Source → Outcome Data) (t : Node) → option_of read (resolved (of_node t) (wrapped t)) ≡ in_option (λ s. read (of_node s)) t
@@ -67,7 +77,9 @@ option_agrees read (node.string s) = refl
 option_agrees read node.unit = refl
 option_agrees read node.none = refl
 option_agrees read (node.some t) = refl
+option_agrees read (node.newtype t) = refl
 option_agrees read (node.seq ts) = refl
+option_agrees read (node.map ts) = refl
 option_agrees read (node.bytes b) = refl
 
 -- a tree is ignored without a fault
@@ -87,12 +99,18 @@ mutual
   node_ignored node.unit = refl
   node_ignored node.none = refl
   node_ignored (node.some t) = node_ignored t
+  node_ignored (node.newtype t) = node_ignored t
   node_ignored (node.seq ts) = nodes_ignored 0 ts
+  node_ignored (node.map ts) = pairs_ignored ts
   node_ignored (node.bytes b) = refl
 
   nodes_ignored : (i : ℕ) (ts : Nodes) → ignored_rest i (of_nodes ts) ≡ given tt
   nodes_ignored i no_nodes = refl
   nodes_ignored i (node.node t ts) = rw (node_ignored t, nodes_ignored (i + 1) ts) refl
+
+  pairs_ignored : (ts : Pairs) → ignored_entries (of_pairs ts) ≡ given tt
+  pairs_ignored no_pairs = refl
+  pairs_ignored (pair k v ts) = rw (node_ignored k, node_ignored v, pairs_ignored ts) refl
 
 count_agrees : (ts : Nodes) → count (of_nodes ts) ≡ number ts
 count_agrees no_nodes = refl
@@ -108,6 +126,207 @@ surplus_agrees i (node.node t ts) = ap (λ n. refused (InvalidLength (i + (n + 1
 
 ignored_agrees : (i : ℕ) (ts : Nodes) → and_then (ignored_rest i (of_nodes ts)) (λ u. given []) ≡ left_over false i ts
 ignored_agrees i ts = rw (nodes_ignored i ts) refl
+
+-- what a key shows is caught as the tree's text, but of an option's key nothing
+text_agrees : (t : Node) → text_caught (plain t) ≡ text_in t
+text_agrees (node.boolean true) = refl
+text_agrees (node.boolean false) = refl
+text_agrees (node.u8 n) = refl
+text_agrees (node.u16 n) = refl
+text_agrees (node.u32 n) = refl
+text_agrees (node.u64 n) = refl
+text_agrees (node.i8 z) = refl
+text_agrees (node.i16 z) = refl
+text_agrees (node.i32 z) = refl
+text_agrees (node.i64 z) = refl
+text_agrees (node.character c) = refl
+text_agrees (node.string s) = refl
+text_agrees node.unit = refl
+text_agrees node.none = refl
+text_agrees (node.some t) = refl
+text_agrees (node.newtype t) = refl
+text_agrees (node.seq ts) = refl
+text_agrees (node.map ts) = refl
+text_agrees (node.bytes b) = refl
+
+option_text : (t : Node) → text_caught (resolved (of_node t) (wrapped t)) ≡ None
+option_text (node.boolean true) = refl
+option_text (node.boolean false) = refl
+option_text (node.u8 n) = refl
+option_text (node.u16 n) = refl
+option_text (node.u32 n) = refl
+option_text (node.u64 n) = refl
+option_text (node.i8 z) = refl
+option_text (node.i16 z) = refl
+option_text (node.i32 z) = refl
+option_text (node.i64 z) = refl
+option_text (node.character c) = refl
+option_text (node.string s) = refl
+option_text node.unit = refl
+option_text node.none = refl
+option_text (node.some t) = refl
+option_text (node.newtype t) = refl
+option_text (node.seq ts) = refl
+option_text (node.map ts) = refl
+option_text (node.bytes b) = refl
+
+-- the same for a newtype's ask
+newtype_agrees : (read : Source → Outcome Data) (t : Node) → newtype_of read (resolved (of_node t) (inside t)) ≡ and_then (read (of_node (held_in t))) (λ d. given (newtype_data d))
+newtype_agrees read (node.boolean b) = refl
+newtype_agrees read (node.u8 n) = refl
+newtype_agrees read (node.u16 n) = refl
+newtype_agrees read (node.u32 n) = refl
+newtype_agrees read (node.u64 n) = refl
+newtype_agrees read (node.i8 z) = refl
+newtype_agrees read (node.i16 z) = refl
+newtype_agrees read (node.i32 z) = refl
+newtype_agrees read (node.i64 z) = refl
+newtype_agrees read (node.character c) = refl
+newtype_agrees read (node.string s) = refl
+newtype_agrees read node.unit = refl
+newtype_agrees read node.none = refl
+newtype_agrees read (node.some t) = refl
+newtype_agrees read (node.newtype t) = refl
+newtype_agrees read (node.seq ts) = refl
+newtype_agrees read (node.map ts) = refl
+newtype_agrees read (node.bytes b) = refl
+
+newtype_text : (t : Node) → text_caught (resolved (of_node t) (inside t)) ≡ None
+newtype_text (node.boolean b) = refl
+newtype_text (node.u8 n) = refl
+newtype_text (node.u16 n) = refl
+newtype_text (node.u32 n) = refl
+newtype_text (node.u64 n) = refl
+newtype_text (node.i8 z) = refl
+newtype_text (node.i16 z) = refl
+newtype_text (node.i32 z) = refl
+newtype_text (node.i64 z) = refl
+newtype_text (node.character c) = refl
+newtype_text (node.string s) = refl
+newtype_text node.unit = refl
+newtype_text node.none = refl
+newtype_text (node.some t) = refl
+newtype_text (node.newtype t) = refl
+newtype_text (node.seq ts) = refl
+newtype_text (node.map ts) = refl
+newtype_text (node.bytes b) = refl
+
+entry_agrees : (a : Shape) (t : Node) → segment_of_key (asks a) (of_node t) ≡ entry_at a t
+entry_agrees (option a) t = ap entry_segment (option_text t)
+entry_agrees (newtype name a) t = ap entry_segment (newtype_text t)
+entry_agrees boolean t = ap entry_segment (text_agrees t)
+entry_agrees u8 t = ap entry_segment (text_agrees t)
+entry_agrees u16 t = ap entry_segment (text_agrees t)
+entry_agrees u32 t = ap entry_segment (text_agrees t)
+entry_agrees u64 t = ap entry_segment (text_agrees t)
+entry_agrees i8 t = ap entry_segment (text_agrees t)
+entry_agrees i16 t = ap entry_segment (text_agrees t)
+entry_agrees i32 t = ap entry_segment (text_agrees t)
+entry_agrees i64 t = ap entry_segment (text_agrees t)
+entry_agrees character t = ap entry_segment (text_agrees t)
+entry_agrees text t = ap entry_segment (text_agrees t)
+entry_agrees bytes t = ap entry_segment (text_agrees t)
+entry_agrees unit t = ap entry_segment (text_agrees t)
+entry_agrees (unit_struct name) t = ap entry_segment (text_agrees t)
+entry_agrees (seq a) t = ap entry_segment (text_agrees t)
+entry_agrees (tuple row) t = ap entry_segment (text_agrees t)
+entry_agrees (tuple_struct name row) t = ap entry_segment (text_agrees t)
+entry_agrees (prefix row) t = ap entry_segment (text_agrees t)
+entry_agrees (prefix_struct name row) t = ap entry_segment (text_agrees t)
+entry_agrees (map k v) t = ap entry_segment (text_agrees t)
+entry_agrees (struct name names row) t = ap entry_segment (text_agrees t)
+entry_agrees (strict name names row) t = ap entry_segment (text_agrees t)
+entry_agrees (loose name names row) t = ap entry_segment (text_agrees t)
+
+-- fields that are alike, over sources and over trees
+abbrev AreAlike : List (Field Source) → List (Field Node) → Type 0
+AreAlike [] [] = Unit {0}
+AreAlike [] (g ∷ gs) = ⊥
+AreAlike (f ∷ fs) [] = ⊥
+AreAlike (f ∷ fs) (g ∷ gs) = (f.name ≡ g.name) × (f.may_be_missing ≡ g.may_be_missing) × ((t : Node) → f.read (of_node t) ≡ g.read t) × AreAlike fs gs
+
+place_alike : (x : List ℕ) (fs : List (Field Source)) (gs : List (Field Node)) → AreAlike fs gs → place_of x fs ≡ place_of x gs
+place_alike x [] [] h = refl
+place_alike x [] (g ∷ gs) h = absurd h
+place_alike x (f ∷ fs) [] h = absurd h
+place_alike x (f ∷ fs) (g ∷ gs) h = rw (h.0, place_alike x fs gs h.3) refl
+
+key_alike : (exact : Bool) (fs : List (Field Source)) (gs : List (Field Node)) (k : Node) → AreAlike fs gs → place_of_key exact fs (offer_of (of_node k) identifier) ≡ place_in exact gs k
+key_alike exact fs gs (node.boolean b) h = refl
+key_alike exact fs gs (node.u8 n) h = refl
+key_alike exact fs gs (node.u16 n) h = refl
+key_alike exact fs gs (node.u32 n) h = refl
+key_alike exact fs gs (node.u64 n) h = refl
+key_alike exact fs gs (node.i8 z) h = refl
+key_alike exact fs gs (node.i16 z) h = refl
+key_alike exact fs gs (node.i32 z) h = refl
+key_alike exact fs gs (node.i64 z) h = refl
+key_alike exact fs gs (node.character c) h = ap (known exact (encode_utf8 c)) (place_alike (encode_utf8 c) fs gs h)
+key_alike exact fs gs (node.string s) h = ap (known exact s) (place_alike s fs gs h)
+key_alike exact fs gs node.unit h = refl
+key_alike exact fs gs node.none h = refl
+key_alike exact fs gs (node.some t) h = refl
+key_alike exact fs gs (node.newtype t) h = refl
+key_alike exact fs gs (node.seq ts) h = refl
+key_alike exact fs gs (node.map ts) h = refl
+key_alike exact fs gs (node.bytes b) h = refl
+
+put_alike : (segment : Segment) (v : Node) (slots : List (Option Data)) (i : ℕ) (slot : Option (Option Data)) (fs : List (Field Source)) (gs : List (Field Node)) (j : ℕ)
+    → AreAlike fs gs → put_field segment (of_node v) slots i (slice_get fs j) slot ≡ put_field segment v slots i (slice_get gs j) slot
+put_alike segment v slots i slot [] [] j h = refl
+put_alike segment v slots i slot [] (g ∷ gs) j h = absurd h
+put_alike segment v slots i slot (f ∷ fs) [] j h = absurd h
+put_alike segment v slots i None (f ∷ fs) (g ∷ gs) zero h = refl
+put_alike segment v slots i (Some None) (f ∷ fs) (g ∷ gs) zero h = rw (h.2 v) refl
+put_alike segment v slots i (Some (Some d)) (f ∷ fs) (g ∷ gs) zero h = rw (h.0) refl
+put_alike segment v slots i slot (f ∷ fs) (g ∷ gs) (suc j) h = put_alike segment v slots i slot fs gs j h.3
+
+value_alike : (segment : Segment) (v : Node) (slots : List (Option Data)) (fs : List (Field Source)) (gs : List (Field Node)) (place : Option ℕ)
+    → AreAlike fs gs → put_value ignored fs segment (of_node v) slots place ≡ put_value dropped gs segment v slots place
+value_alike segment v slots fs gs None h = rw (node_ignored v) refl
+value_alike segment v slots fs gs (Some i) h = put_alike segment v slots i (slice_get slots i) fs gs i h
+
+step_alike : (exact : Bool) (fs : List (Field Source)) (gs : List (Field Node)) (slots : List (Option Data)) (k v : Node)
+    → AreAlike fs gs → field_step exact fs slots (of_node k) (of_node v) ≡ named_pair exact gs slots k v
+step_alike exact fs gs slots k v h =
+    rw (ap entry_segment (text_agrees k), key_alike exact fs gs k h)
+    (ap (and_then (at_key (entry_segment (text_in k)) (place_in exact gs k))) (λ i place. value_alike (entry_segment (text_in k)) v slots fs gs place h i))
+
+each_alike : (exact : Bool) (fs : List (Field Source)) (gs : List (Field Node)) (slots : List (Option Data)) (ts : Pairs)
+    → AreAlike fs gs → each_field exact fs slots (of_pairs ts) ≡ each_named exact gs slots ts
+each_alike exact fs gs slots no_pairs h = refl
+each_alike exact fs gs slots (pair k v ts) h =
+    rw (step_alike exact fs gs slots k v h)
+    (ap (and_then (named_pair exact gs slots k v)) (λ i more. each_alike exact fs gs more ts h i))
+
+filled_alike : (f : Field Source) (g : Field Node) (slot : Option Data) → f.name ≡ g.name → f.may_be_missing ≡ g.may_be_missing → filled f slot ≡ filled g slot
+filled_alike f g (Some d) n m = refl
+filled_alike f g None n m = rw (n, m) refl
+
+completed_alike : (fs : List (Field Source)) (gs : List (Field Node)) (slots : List (Option Data)) → AreAlike fs gs → completed fs slots ≡ completed gs slots
+completed_alike [] [] slots h = refl
+completed_alike [] (g ∷ gs) slots h = absurd h
+completed_alike (f ∷ fs) [] slots h = absurd h
+completed_alike (f ∷ fs) (g ∷ gs) [] h = refl
+completed_alike (f ∷ fs) (g ∷ gs) (slot ∷ slots) h = rw (filled_alike f g slot h.0 h.1, completed_alike fs gs slots h.3) refl
+
+no_values_alike : (fs : List (Field Source)) (gs : List (Field Node)) → AreAlike fs gs → no_values fs ≡ no_values gs
+no_values_alike [] [] h = refl
+no_values_alike [] (g ∷ gs) h = absurd h
+no_values_alike (f ∷ fs) [] h = absurd h
+no_values_alike (f ∷ fs) (g ∷ gs) h = ap (λ slots. None ∷ slots) (no_values_alike fs gs h.3)
+
+named_alike : (exact : Bool) (fs : List (Field Source)) (gs : List (Field Node)) (ts : Pairs) → AreAlike fs gs → named exact fs (of_pairs ts) ≡ named_tree exact gs ts
+named_alike exact fs gs ts h =
+    rw (no_values_alike fs gs h, each_alike exact fs gs (no_values gs) ts h)
+    (ap (and_then (each_named exact gs (no_values gs) ts)) (λ i slots. completed_alike fs gs slots h i))
+
+entries_agree : (a : Ask) (at : Node → Segment) (key value : Source → Outcome Data) (tree_key tree_value : Node → Outcome Data)
+    → ((t : Node) → segment_of_key a (of_node t) ≡ at t) → ((t : Node) → key (of_node t) ≡ tree_key t) → ((t : Node) → value (of_node t) ≡ tree_value t)
+    → (ps : List (Data × Data)) (ts : Pairs) → each_entry a key value ps (of_pairs ts) ≡ each_pair at tree_key tree_value ps ts
+entries_agree a at key value tree_key tree_value same keys values ps no_pairs = refl
+entries_agree a at key value tree_key tree_value same keys values ps (pair k v ts) =
+    rw (same k, keys k, values v) (ap (and_then (pair_of (at k) (tree_key k) (tree_value v))) (λ i p. entries_agree a at key value tree_key tree_value same keys values (put data_order p.0 p.1 ps) ts i))
 
 mutual
   pub first_agrees : (a : Shape) (t : Node) → first a (of_node t) ≡ first_tree a t
@@ -130,7 +349,21 @@ mutual
   first_agrees (tuple row) t = (agrees t).tuples (readers row) ∙ (λ i. in_seq (λ ts. tuple_agrees row 0 ts i) t)
   first_agrees (tuple_struct name row) t = (agrees t).tuples (readers row) ∙ (λ i. in_seq (λ ts. tuple_agrees row 0 ts i) t)
   first_agrees (prefix row) t = (agrees t).prefixes (readers row) ∙ (λ i. in_seq (λ ts. prefix_agrees row 0 ts i) t)
+  first_agrees (map k v) t =
+      (agrees t).maps (asks k) (first k) (first v) ∙ (λ i. in_map (λ ts. entries_agree (asks k) (entry_at k) (first k) (first v) (first_tree k) (first_tree v) (entry_agrees k) (first_agrees k) (first_agrees v) [] ts i) t)
+  first_agrees (newtype name a) t = newtype_agrees (first a) t ∙ ap (λ o. and_then o (λ d. given (newtype_data d))) (first_agrees a (held_in t))
+  first_agrees (struct name names row) t =
+      (agrees t).structs true true (fields_of names row (readers row)) (readers row) ∙ (λ i. in_struct (λ ts. tuple_agrees row 0 ts i) (λ ts. named_alike true (fields_of names row (readers row)) (fields_of names row (tree_readers row)) ts (fields_alike names row) i) t)
+  first_agrees (strict name names row) t =
+      (agrees t).structs false true (fields_of names row (readers row)) (readers row) ∙ (λ i. in_struct (λ ts. prefix_agrees row 0 ts i) (λ ts. named_alike true (fields_of names row (readers row)) (fields_of names row (tree_readers row)) ts (fields_alike names row) i) t)
+  first_agrees (loose name names row) t =
+      (agrees t).structs false false (fields_of names row (readers row)) (readers row) ∙ (λ i. in_struct (λ ts. prefix_agrees row 0 ts i) (λ ts. named_alike false (fields_of names row (readers row)) (fields_of names row (tree_readers row)) ts (fields_alike names row) i) t)
   first_agrees (prefix_struct name row) t = (agrees t).prefixes (readers row) ∙ (λ i. in_seq (λ ts. prefix_agrees row 0 ts i) t)
+
+  fields_alike : (names : List (List ℕ)) (row : Shapes) → AreAlike (fields_of names row (readers row)) (fields_of names row (tree_readers row))
+  fields_alike [] row = tt
+  fields_alike (n ∷ names) no_shapes = tt
+  fields_alike (n ∷ names) (shape a rest) = (refl, refl, first_agrees a, fields_alike names rest)
 
   tuple_agrees : (row : Shapes) (i : ℕ) (ts : Nodes) → row_of (λ i left. unless (surplus true i left)) (readers row) i (of_nodes ts) ≡ row_tree true (tree_readers row) i ts
   tuple_agrees no_shapes i ts = surplus_agrees i ts

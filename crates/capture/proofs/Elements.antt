@@ -22,7 +22,7 @@ depth_at (x ∷ xs) (suc i) d h = omega (arith, depth_at xs i d (omega arith))
 pub items_at : (xs : List Value) (i : ℕ) (x : Value) → i < length xs → x ≡ get_or xs i x → items_view (drop i xs) ≡ item (view x) (items_view (drop (i + 1) xs))
 items_at xs i x h e = rw (add-one, drop-cons xs i x h, ← e) refl
 
-after-push : {A : Type 0} (read : List A) (a : A) (rest : Option (List A)) → after read (option_map (λ more. a ∷ more) rest) ≡ after (read ++ a ∷ []) rest
+pub after-push : {A : Type 0} (read : List A) (a : A) (rest : Option (List A)) → after read (option_map (λ more. a ∷ more) rest) ≡ after (read ++ a ∷ []) rest
 after-push read a None = refl
 after-push read a (Some more) = ap Some (sym (append_assoc read (a ∷ []) more))
 

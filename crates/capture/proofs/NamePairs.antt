@@ -6,7 +6,7 @@ use Rattle.serde_json.specs.View.{view, items_view}
 use Rattle.serde_json.specs.declared.value.Value.{Value}
 use Rattle.shape.specs.Shape.{Shape}
 use Rattle.capture.specs.declared.version.Version.{Version}
-use Rattle.capture.specs.Words.{name_in, named_in, row_in, named_row_in}
+use Rattle.capture.specs.Words.{Fields, together, name_in, named_in, shape_of, row_in, named_row_in, named_shape_in, named_fields_in, fields_in}
 
 pub named-two : (xs : List Value) (a b : Value) → length xs ≡ 2 → named_in (array (items_view xs)) ≡ option_map (λ name. (name, view (get_or xs 1 b))) (name_in (view (get_or xs 0 a)))
 named-two [] a b two = absurd (omega arith)
@@ -64,3 +64,48 @@ depth-named (json.array (item n (item d (item f ds)))) name e h = cc
 depth-named (json.object ms) name e h = cc
 
 pub ruleset rows = (named_row-by_name, depth-named)
+
+together_of : {A : Type 0} (name : List ℕ) (o : Option A) → together (Some name) o ≡ option_map (λ a. with_value a name) o
+together_of name None = refl
+together_of name (Some a) = refl
+
+abbrev pub shape_under : Version → List ℕ × Data → Option (List ℕ × Shape)
+shape_under v n = option_map (λ a. with_value a n.0) (shape_of v n.1)
+
+named_shape_by : (v : Version) (d : Data) (o : Option (List ℕ)) → together o (shape_of v d) ≡ option_and_then (shape_under v) (option_map (with_value d) o)
+named_shape_by v d None = refl
+named_shape_by v d (Some name) = together_of name (shape_of v d)
+
+-- a named shape, and named fields, by the name and what it names
+pub named_shape-by_name : (v : Version) (d : Data) → named_shape_in v d ≡ option_and_then (shape_under v) (named_in d)
+named_shape-by_name v json.null = refl
+named_shape-by_name v (json.boolean b) = refl
+named_shape-by_name v (json.number n) = refl
+named_shape-by_name v (json.string t) = refl
+named_shape-by_name v (json.array no_items) = refl
+named_shape-by_name v (json.array (item n no_items)) = refl
+named_shape-by_name v (json.array (item n (item d no_items))) = named_shape_by v d (name_in n)
+named_shape-by_name v (json.array (item n (item d (item e ds)))) = refl
+named_shape-by_name v (json.object ms) = refl
+
+abbrev pub fields_under : Version → List ℕ × Data → Option (List ℕ × Fields)
+fields_under v n = option_map (λ a. with_value a n.0) (fields_in v n.1)
+
+named_fields_by : (v : Version) (d : Data) (o : Option (List ℕ)) → together o (fields_in v d) ≡ option_and_then (fields_under v) (option_map (with_value d) o)
+named_fields_by v d None = refl
+named_fields_by v d (Some name) = together_of name (fields_in v d)
+
+pub named_fields-by_name : (v : Version) (d : Data) → named_fields_in v d ≡ option_and_then (fields_under v) (named_in d)
+named_fields-by_name v json.null = refl
+named_fields-by_name v (json.boolean b) = refl
+named_fields-by_name v (json.number n) = refl
+named_fields-by_name v (json.string t) = refl
+named_fields-by_name v (json.array no_items) = refl
+named_fields-by_name v (json.array (item n no_items)) = refl
+named_fields-by_name v (json.array (item n (item d no_items))) = named_fields_by v d (name_in n)
+named_fields-by_name v (json.array (item n (item d (item e ds)))) = refl
+named_fields-by_name v (json.object ms) = refl
+
+pub ruleset shapes = (named_shape-by_name, depth-named)
+
+pub ruleset structs = (named_fields-by_name, depth-named)

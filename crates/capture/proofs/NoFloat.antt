@@ -1,5 +1,5 @@
 -- An answer holds no float.
-use Rattle.std.proofs.Common.{◌≡◌, ◌∙◌, ℕ, ℤ, pos, negsuc, false, List, [], ◌∷◌, ◌++◌, refl}
+use Rattle.std.proofs.Common.{◌≡◌, ◌∙◌, ℕ, ℤ, pos, negsuc, false, List, [], ◌∷◌, ◌++◌, ◌+◌, Option, Some, None, refl}
 use Rattle.serde_json.specs.Data.{Data}
 use Rattle.serde_json.specs.Find.{of_integer}
 use Rattle.serde_json.specs.Data as json
@@ -10,7 +10,7 @@ use Rattle.data_core.specs.declared.path.Segment.{Segment}
 use Rattle.data_core.specs.declared.path.Segment.TheVariants as segment
 use Rattle.data_core.specs.Outcome.{Outcome, given, refused}
 use Rattle.shape.specs.Shape as shape
-use Rattle.capture.specs.Line.{whole, each, printed, printed_parts, printed_fault, printed_segment, answer, line}
+use Rattle.capture.specs.Line.{whole, each, inside_of, element_of, key_of, value_of, name_at, field_of, with_name, printed, printed_parts, printed_fields, printed_pairs, printed_payload, printed_fault, printed_segment, answer, line}
 
 each_has_none : {A : Type 0} (print : A → Data) → ((a : A) → has_float (print a) ≡ false) → (rest : List A) → items_have_float (each print rest) ≡ false
 each_has_none print none [] = refl
@@ -20,22 +20,45 @@ integer_has_none : (z : ℤ) → has_float (json.number (of_integer z)) ≡ fals
 integer_has_none (pos n) = refl
 integer_has_none (negsuc n) = refl
 
-mutual
-  printed_has_none : (d : shape.Data) → has_float (printed d) ≡ false
-  printed_has_none (shape.boolean_data b) = refl
-  printed_has_none (shape.unsigned n) = refl
-  printed_has_none (shape.signed z) = integer_has_none z
-  printed_has_none (shape.character_data c) = refl
-  printed_has_none (shape.text_data t) = refl
-  printed_has_none (shape.bytes_data b) = each_has_none whole (λ n. refl) b
-  printed_has_none shape.unit_data = refl
-  printed_has_none shape.nothing = refl
-  printed_has_none (shape.something d) = rw (printed_has_none d) refl
-  printed_has_none (shape.seq_data ds) = parts_have_none ds
+named_has_none : (name : Option (List ℕ)) (d : Data) → has_float d ≡ false → has_float (with_name name d) ≡ false
+named_has_none None d h = h
+named_has_none (Some name) d h = rw h refl
 
-  parts_have_none : (ds : shape.Parts) → items_have_float (printed_parts ds) ≡ false
-  parts_have_none shape.no_parts = refl
-  parts_have_none (shape.part d ds) = rw (printed_has_none d, parts_have_none ds) refl
+mutual
+  printed_has_none : (a : Option shape.Shape) (d : shape.Data) → has_float (printed a d) ≡ false
+  printed_has_none a (shape.boolean_data b) = refl
+  printed_has_none a (shape.unsigned n) = refl
+  printed_has_none a (shape.signed z) = integer_has_none z
+  printed_has_none a (shape.character_data c) = refl
+  printed_has_none a (shape.text_data t) = refl
+  printed_has_none a (shape.bytes_data b) = each_has_none whole (λ n. refl) b
+  printed_has_none a shape.unit_data = refl
+  printed_has_none a shape.nothing = refl
+  printed_has_none a (shape.something d) = rw (printed_has_none (inside_of a) d) refl
+  printed_has_none a (shape.newtype_data d) = printed_has_none (inside_of a) d
+  printed_has_none a (shape.seq_data ds) = parts_have_none a 0 ds
+  printed_has_none a (shape.map_data ps) = pairs_have_none a ps
+  printed_has_none a (shape.struct_data ds) = fields_have_none a 0 ds
+  printed_has_none a (shape.enum_data n p) = payload_has_none p
+
+  parts_have_none : (a : Option shape.Shape) (i : ℕ) (ds : shape.Parts) → items_have_float (printed_parts a i ds) ≡ false
+  parts_have_none a i shape.no_parts = refl
+  parts_have_none a i (shape.part d ds) = rw (printed_has_none (element_of a i) d, parts_have_none a (i + 1) ds) refl
+
+  fields_have_none : (a : Option shape.Shape) (i : ℕ) (ds : shape.Parts) → items_have_float (printed_fields a i ds) ≡ false
+  fields_have_none a i shape.no_parts = refl
+  fields_have_none a i (shape.part d ds) =
+      rw (named_has_none (name_at a i) (printed (field_of a i) d) (printed_has_none (field_of a i) d), fields_have_none a (i + 1) ds) refl
+
+  pairs_have_none : (a : Option shape.Shape) (ps : shape.DataPairs) → items_have_float (printed_pairs a ps) ≡ false
+  pairs_have_none a shape.no_pairs = refl
+  pairs_have_none a (shape.pair k v ps) = rw (printed_has_none (key_of a) k, printed_has_none (value_of a) v, pairs_have_none a ps) refl
+
+  payload_has_none : (p : shape.PayloadData) → items_have_float (printed_payload p) ≡ false
+  payload_has_none shape.unit_payload = refl
+  payload_has_none (shape.newtype_payload d) = rw (printed_has_none None d) refl
+  payload_has_none (shape.tuple_payload ds) = rw (parts_have_none None 0 ds) refl
+  payload_has_none (shape.struct_payload ds) = rw (fields_have_none None 0 ds) refl
 
 fault_has_none : (f : Fault) → has_float (printed_fault f) ≡ false
 fault_has_none (fault.InvalidType k) = refl
@@ -57,10 +80,10 @@ segment_has_none (segment.Map key) = refl
 segment_has_none (segment.Enum variant) = refl
 segment_has_none segment.Unknown = refl
 
-pub answer_has_none : (o : Outcome shape.Data) → has_float (answer o) ≡ false
-answer_has_none (given d) = rw (printed_has_none d) refl
-answer_has_none (refused f path) = rw (fault_has_none f, each_has_none printed_segment segment_has_none path) refl
+pub answer_has_none : (a : shape.Shape) (o : Outcome shape.Data) → has_float (answer a o) ≡ false
+answer_has_none a (given d) = rw (printed_has_none (Some a) d) refl
+answer_has_none a (refused f path) = rw (fault_has_none f, each_has_none printed_segment segment_has_none path) refl
 
 -- the status and the line of an outcome, once its text was printed
-pub answered : (o : Outcome shape.Data) (v : Data) (written : List ℕ) → v ≡ answer o → (has_float v ≡ false → written ≡ compact_text v ++ 10 ∷ []) → written ≡ line o
-answered o v written seen text = text (rw seen (answer_has_none o)) ∙ rw seen refl
+pub answered : (a : shape.Shape) (o : Outcome shape.Data) (v : Data) (written : List ℕ) → v ≡ answer a o → (has_float v ≡ false → written ≡ compact_text v ++ 10 ∷ []) → written ≡ line a o
+answered a o v written seen text = text (rw seen (answer_has_none a o)) ∙ rw seen refl

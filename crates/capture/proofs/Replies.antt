@@ -6,7 +6,7 @@ use Rattle.data_core.specs.Outcome.{Outcome, given, refused}
 use Rattle.shape.specs.Shape.{Data}
 use Rattle.capture.specs.Document.{Document}
 use Rattle.capture.specs.Line.{line}
-use Rattle.capture.specs.Run.{outcome_of, IsReply, IsAnswer, Concludes, TookFront}
+use Rattle.capture.specs.Run.{outcome_of, line_of, IsReply, IsAnswer, Concludes, TookFront}
 use Rattle.capture.specs.Answer.{answer_of}
 use Rattle.capture.specs.Status.{status_of, OnAnswer, OnSilence}
 use Rattle.capture.specs.declared.status.Status.{Status}
@@ -20,7 +20,7 @@ only_word (w ∷ x ∷ words) word one first = absurd (omega arith)
 
 -- the document that an answer was made of
 pub answered_document : (found : Option Document) (status : Status) (text : List ℕ) → ◌≡◌ {A = Option (Status × List ℕ)} (Some (status, text)) (option_map answer_of found)
-    → (d : Document) × (found ≡ Some d) × (status ≡ status_of (outcome_of d)) × (text ≡ line (outcome_of d))
+    → (d : Document) × (found ≡ Some d) × (status ≡ status_of (outcome_of d)) × (text ≡ line_of d)
 answered_document None status text e = absurd (cc)
 answered_document (Some d) status text e =
     let same : ◌≡◌ {A = Status × List ℕ} (status, text) (answer_of d) = ap (λ (o : Option (Status × List ℕ)). unwrap_or o (status, text)) e in
@@ -66,7 +66,7 @@ answers_more TooLong P Q more p = tt
 
 -- a whole line that was taken answers the document
 pub line_answers : (found : Option Document) (status : Status) (text : List ℕ) (old new : Option (List ℕ)) → ◌≡◌ {A = Option (Status × List ℕ)} (Some (status, text)) (option_map answer_of found)
-    → new ≡ with_more old text → IsSomeAnd found (λ d. IsAnswer status (outcome_of d) old new)
+    → new ≡ with_more old text → IsSomeAnd found (λ d. IsAnswer status d old new)
 line_answers found status text old new e taken =
     let d = answered_document found status text e in
     rw d.1 (d.2, rw d.3 at taken)
@@ -79,7 +79,7 @@ line_concludes found status text old new e taken =
 
 -- a front of the line
 pub front_of_line : (found : Option Document) (status : Status) (text : List ℕ) (old new : Option (List ℕ)) → ◌≡◌ {A = Option (Status × List ℕ)} (Some (status, text)) (option_map answer_of found)
-    → TookFront text old new → IsSomeAnd found (λ d. TookFront (line (outcome_of d)) old new)
+    → TookFront text old new → IsSomeAnd found (λ d. TookFront (line_of d) old new)
 front_of_line found status text old new e front =
     let d = answered_document found status text e in
     rw d.1 (front.0, rw d.3 at front.1)

@@ -5,7 +5,7 @@ use Rattle.serde_json.specs.declared.value.Value.{Value}
 use Rattle.serde_json.specs.Data.{Data, object, Members, no_members, member, depth}
 use Rattle.serde_json.specs.View.{view, members_view}
 use Rattle.capture.specs.declared.version.Version.{Version}
-use Rattle.capture.specs.Words.{sole, shape_of, row_in, named_row_in, tagged_shape, tree_of, trees_in, tagged_tree}
+use Rattle.capture.specs.Words.{sole, shape_of, under_in, tagged_shape, tree_of, trees_in, entries_in, tagged_tree}
 
 abbrev Entry : Type 0
 Entry = String Global × Value
@@ -36,7 +36,7 @@ sole-alone (member name f no_members) tag d e =
 sole-alone (member name f (member other g ms)) tag d e = cc
 
 -- the word of an only member, and of none
-pub shape_of-sole : (v : Version) (ms : Members) (tag : List ℕ) (d : Data) → sole ms ≡ Some (tag, d) → shape_of v (object ms) ≡ tagged_shape v tag d (shape_of v d) (row_in v d) (named_row_in v d)
+pub shape_of-sole : (v : Version) (ms : Members) (tag : List ℕ) (d : Data) → sole ms ≡ Some (tag, d) → shape_of v (object ms) ≡ tagged_shape v tag d (under_in v d)
 shape_of-sole v ms tag d e = rw (sole-alone ms tag d e) refl
 
 pub shape_of-none : (v : Version) (ms : Members) → sole ms ≡ None → shape_of v (object ms) ≡ None
@@ -44,7 +44,7 @@ shape_of-none v no_members e = refl
 shape_of-none v (member name f no_members) e = cc
 shape_of-none v (member name f (member other g ms)) e = refl
 
-pub tree_of-sole : (ms : Members) (tag : List ℕ) (d : Data) → sole ms ≡ Some (tag, d) → tree_of (object ms) ≡ tagged_tree tag d (tree_of d) (trees_in d)
+pub tree_of-sole : (ms : Members) (tag : List ℕ) (d : Data) → sole ms ≡ Some (tag, d) → tree_of (object ms) ≡ tagged_tree tag d (tree_of d) (trees_in d) (entries_in d)
 tree_of-sole ms tag d e = rw (sole-alone ms tag d e) refl
 
 pub tree_of-none : (ms : Members) → sole ms ≡ None → tree_of (object ms) ≡ None

@@ -1,17 +1,24 @@
 -- The first outcome of a shape over a tree, with no word of sources: its value, or the first fault
 -- with the path to it.
-use Rattle.std.specs.Prelude.{ℕ, ℤ, ◌^◌, ◌+◌, ◌-◌, Bool, true, false, List, [], ◌∷◌, pos, negsuc, nat_le, if◌then◌else◌, Option, Some, None, encode_utf8}
+use Rattle.std.specs.Prelude.{ℕ, ℤ, ◌^◌, ◌+◌, ◌-◌, Bool, true, false, List, [], ◌∷◌, pos, negsuc, nat_le, if◌then◌else◌, Option, Some, None, encode_utf8, codes}
+use Rattle.std.specs.Fmt.{decimal, signed_decimal}
 use Rattle.std.specs.Str.{chars, is_utf8}
 use Rattle.data_core.specs.declared.fault.Fault.TheVariants.{InvalidType, InvalidValue, InvalidLength}
 use Rattle.data_core.specs.declared.fault.Kind.{Kind}
 use Rattle.data_core.specs.declared.fault.Kind.TheVariants as kind
+use Rattle.data_core.specs.declared.path.Segment.{Segment}
 use Rattle.data_core.specs.declared.path.Segment.TheVariants.{Seq}
 use Rattle.data_core.specs.Only.{only}
-use Rattle.data_core.specs.Node.{Node, Nodes, no_nodes, node}
+use Rattle.data_core.specs.Node.{Node, Nodes, no_nodes, node, Pairs, no_pairs, pair}
 use Rattle.data_core.specs.Node as node
 use Rattle.data_core.specs.Outcome.{Outcome, given, refused, under, and_then}
-use Rattle.shape.specs.Shape.{Shape, boolean, u8, u16, u32, u64, i8, i16, i32, i64, character, text, bytes, unit, unit_struct, option, seq, tuple, tuple_struct, prefix, prefix_struct, Shapes, no_shapes, shape, Data, boolean_data, unsigned, signed, character_data, text_data, bytes_data, unit_data, nothing, something}
-use Rattle.shape.specs.First.{within, character_from, elements_data}
+use Rattle.data_core.specs.Pairs.{put}
+use Rattle.data_core.specs.Table.{entry_segment}
+use Rattle.shape.specs.Shape.{Shape, boolean, u8, u16, u32, u64, i8, i16, i32, i64, character, text, bytes, unit, unit_struct, option, seq, tuple, tuple_struct, prefix, prefix_struct, map, newtype, struct, strict, loose, Shapes, no_shapes, shape, Data, boolean_data, unsigned, signed, character_data, text_data, bytes_data, unit_data, nothing, something, newtype_data, map_data, pairs_of}
+use Rattle.shape.specs.DataOrder.{data_order}
+use Rattle.data_std.specs.Ignored.{at_key}
+use Rattle.shape.specs.Fields.{Field, fields_of, place_of, known, put_value, no_values, completed}
+use Rattle.shape.specs.First.{within, character_from, elements_data, pair_of, fields_data}
 
 -- the kind that a node has of itself
 abbrev pub own : Node → Kind
@@ -29,7 +36,9 @@ own (node.string t) = kind.Str
 own node.unit = kind.Unit
 own node.none = kind.Option
 own (node.some t) = kind.Option
+own (node.newtype t) = kind.NewtypeStruct
 own (node.seq ns) = kind.Seq
+own (node.map ps) = kind.Map
 own (node.bytes b) = kind.Bytes
 
 -- the kind that a reader sees: a character's is that of its text
@@ -99,6 +108,72 @@ abbrev pub in_seq : (Nodes → Outcome (List Data)) → Node → Outcome Data
 in_seq read (node.seq ts) = elements_data (read ts)
 in_seq read t = refused_as_itself t
 
+-- the text of a tree that is a key: an integer's digits, true or false, or a text
+abbrev pub text_in : Node → Option (List ℕ)
+text_in (node.boolean true) = Some (codes "true")
+text_in (node.boolean false) = Some (codes "false")
+text_in (node.u8 n) = Some (decimal n)
+text_in (node.u16 n) = Some (decimal n)
+text_in (node.u32 n) = Some (decimal n)
+text_in (node.u64 n) = Some (decimal n)
+text_in (node.i8 z) = Some (signed_decimal z)
+text_in (node.i16 z) = Some (signed_decimal z)
+text_in (node.i32 z) = Some (signed_decimal z)
+text_in (node.i64 z) = Some (signed_decimal z)
+text_in (node.string t) = Some t
+text_in t = None
+
+-- what an entry adds to a path, by the shape of its key: the key's text, which an option and a newtype hide
+abbrev pub entry_at : Shape → Node → Segment
+entry_at (option a) k = entry_segment None
+entry_at (newtype name a) k = entry_segment None
+entry_at a k = entry_segment (text_in k)
+
+-- each pair in order, put into those before it, up to the first fault
+abbrev pub each_pair : (Node → Segment) → (Node → Outcome Data) → (Node → Outcome Data) → List (Data × Data) → Pairs → Outcome (List (Data × Data))
+each_pair at key value ps no_pairs = given ps
+each_pair at key value ps (pair k v rest) =
+    and_then (pair_of (at k) (key k) (value v)) (λ p. each_pair at key value (put data_order p.0 p.1 ps) rest)
+
+abbrev pub in_map : (Pairs → Outcome (List (Data × Data))) → Node → Outcome Data
+in_map read (node.map ts) = and_then (read ts) (λ ps. given (map_data (pairs_of ps)))
+in_map read t = refused_as_itself t
+
+-- what a newtype holds, and any other tree itself
+abbrev pub held_in : Node → Node
+held_in (node.newtype t) = t
+held_in t = t
+
+-- the place of the field that a key names, by its text or its character
+abbrev pub place_in : Bool → List (Field Node) → Node → Outcome (Option ℕ)
+place_in exact fields (node.string t) = known exact t (place_of t fields)
+place_in exact fields (node.character c) = known exact (encode_utf8 c) (place_of (encode_utf8 c) fields)
+place_in exact fields k = refused (InvalidType (seen k)) []
+
+-- a tree is dropped without a fault
+abbrev pub dropped : Node → Outcome (Unit {0})
+dropped t = given tt
+
+-- a pair: its key, and then its value, put into the slot of its field
+abbrev pub named_pair : Bool → List (Field Node) → List (Option Data) → Node → Node → Outcome (List (Option Data))
+named_pair exact fields slots k v =
+    and_then (at_key (entry_segment (text_in k)) (place_in exact fields k)) (put_value dropped fields (entry_segment (text_in k)) v slots)
+
+-- each pair in order, up to the first fault
+abbrev pub each_named : Bool → List (Field Node) → List (Option Data) → Pairs → Outcome (List (Option Data))
+each_named exact fields slots no_pairs = given slots
+each_named exact fields slots (pair k v rest) = and_then (named_pair exact fields slots k v) (λ more. each_named exact fields more rest)
+
+-- the value of each field, from all pairs
+abbrev pub named_tree : Bool → List (Field Node) → Pairs → Outcome (List Data)
+named_tree exact fields ts = and_then (each_named exact fields (no_values fields) ts) (completed fields)
+
+-- a struct: a sequence by position, a map by names
+abbrev pub in_struct : (Nodes → Outcome (List Data)) → (Pairs → Outcome (List Data)) → Node → Outcome Data
+in_struct by_position by_name (node.seq ts) = fields_data (by_position ts)
+in_struct by_position by_name (node.map ts) = fields_data (by_name ts)
+in_struct by_position by_name t = refused_as_itself t
+
 abbrev mutual
   pub first_tree : Shape → Node → Outcome Data
   first_tree boolean (node.boolean b) = given (boolean_data b)
@@ -124,6 +199,11 @@ abbrev mutual
   first_tree (tuple_struct name row) t = in_seq (row_tree true (tree_readers row) 0) t
   first_tree (prefix row) t = in_seq (row_tree false (tree_readers row) 0) t
   first_tree (prefix_struct name row) t = in_seq (row_tree false (tree_readers row) 0) t
+  first_tree (map k v) t = in_map (each_pair (entry_at k) (first_tree k) (first_tree v) []) t
+  first_tree (newtype name a) t = and_then (first_tree a (held_in t)) (λ d. given (newtype_data d))
+  first_tree (struct name names row) t = in_struct (row_tree true (tree_readers row) 0) (named_tree true (fields_of names row (tree_readers row))) t
+  first_tree (strict name names row) t = in_struct (row_tree false (tree_readers row) 0) (named_tree true (fields_of names row (tree_readers row))) t
+  first_tree (loose name names row) t = in_struct (row_tree false (tree_readers row) 0) (named_tree false (fields_of names row (tree_readers row))) t
   first_tree s t = refused_as_itself t
 
   pub tree_readers : Shapes → List (Node → Outcome Data)

@@ -8,3 +8,5 @@ pub mod Line
 pub mod Status
 pub mod Run
 pub mod Answer
+pub mod LentShape
+pub mod FieldsView

@@ -1,5 +1,5 @@
 -- The line that an answer is written as.
-use Rattle.std.specs.Prelude.{ℕ, List, [], ◌∷◌, ◌++◌, encode_utf8, codes}
+use Rattle.std.specs.Prelude.{ℕ, zero, suc, ◌+◌, List, [], ◌∷◌, ◌++◌, Option, Some, None, slice_get, encode_utf8, codes}
 use Rattle.serde_json.specs.Data as json
 use Rattle.serde_json.specs.Data.{no_items, item, Items, no_members, member}
 use Rattle.serde_json.specs.Find.{of_integer}
@@ -12,7 +12,7 @@ use Rattle.data_core.specs.KindName.{kind_name}
 use Rattle.data_core.specs.WordText.{word_text}
 use Rattle.data_core.specs.PathText.{path_text}
 use Rattle.data_core.specs.Outcome.{Outcome, given, refused}
-use Rattle.shape.specs.Shape.{Data, boolean_data, unsigned, signed, character_data, text_data, bytes_data, unit_data, nothing, something, seq_data, Parts, no_parts, part}
+use Rattle.shape.specs.Shape.{Shape, option, seq, tuple, tuple_struct, prefix, prefix_struct, map, newtype, struct, strict, loose, Shapes, no_shapes, shape, Data, boolean_data, unsigned, signed, character_data, text_data, bytes_data, unit_data, nothing, something, newtype_data, seq_data, map_data, struct_data, enum_data, Parts, no_parts, part, DataPairs, no_pairs, pair, PayloadData, unit_payload, newtype_payload, tuple_payload, struct_payload}
 
 abbrev pub whole : ℕ → json.Data
 whole n = json.number (json.unsigned n)
@@ -22,23 +22,93 @@ abbrev pub each : {A : Type 0} → (A → json.Data) → List A → Items
 each print [] = no_items
 each print (a ∷ rest) = item (print a) (each print rest)
 
-abbrev mutual
-  -- how a value is printed
-  pub printed : Data → json.Data
-  printed (boolean_data b) = json.boolean b
-  printed (unsigned n) = whole n
-  printed (signed z) = json.number (of_integer z)
-  printed (character_data c) = json.string (encode_utf8 c)
-  printed (text_data t) = json.string t
-  printed (bytes_data b) = json.array (each whole b)
-  printed unit_data = json.null
-  printed nothing = json.array no_items
-  printed (something d) = json.array (item (printed d) no_items)
-  printed (seq_data ds) = json.array (printed_parts ds)
+-- the shapes by which the parts of a value are printed; of a value that is of no such shape they are none
 
-  pub printed_parts : Parts → Items
-  printed_parts no_parts = no_items
-  printed_parts (part d ds) = item (printed d) (printed_parts ds)
+abbrev pub inside_of : Option Shape → Option Shape
+inside_of (Some (option a)) = Some a
+inside_of (Some (newtype name a)) = Some a
+inside_of a = None
+
+abbrev pub shape_at : Shapes → ℕ → Option Shape
+shape_at no_shapes i = None
+shape_at (shape a rest) zero = Some a
+shape_at (shape a rest) (suc i) = shape_at rest i
+
+abbrev pub element_of : Option Shape → ℕ → Option Shape
+element_of (Some (seq a)) i = Some a
+element_of (Some (tuple row)) i = shape_at row i
+element_of (Some (tuple_struct name row)) i = shape_at row i
+element_of (Some (prefix row)) i = shape_at row i
+element_of (Some (prefix_struct name row)) i = shape_at row i
+element_of a i = None
+
+abbrev pub key_of : Option Shape → Option Shape
+key_of (Some (map k v)) = Some k
+key_of a = None
+
+abbrev pub value_of : Option Shape → Option Shape
+value_of (Some (map k v)) = Some v
+value_of a = None
+
+-- a field at a place: its name, and its shape
+
+abbrev pub name_at : Option Shape → ℕ → Option (List ℕ)
+name_at (Some (struct name names row)) i = slice_get names i
+name_at (Some (strict name names row)) i = slice_get names i
+name_at (Some (loose name names row)) i = slice_get names i
+name_at a i = None
+
+abbrev pub field_of : Option Shape → ℕ → Option Shape
+field_of (Some (struct name names row)) i = shape_at row i
+field_of (Some (strict name names row)) i = shape_at row i
+field_of (Some (loose name names row)) i = shape_at row i
+field_of a i = None
+
+-- a field with its name
+abbrev pub with_name : Option (List ℕ) → json.Data → json.Data
+with_name None d = d
+with_name (Some name) d = json.array (item (json.string name) (item d no_items))
+
+abbrev mutual
+  -- how a value of a shape is printed
+  pub printed : Option Shape → Data → json.Data
+  printed a (boolean_data b) = json.boolean b
+  printed a (unsigned n) = whole n
+  printed a (signed z) = json.number (of_integer z)
+  printed a (character_data c) = json.string (encode_utf8 c)
+  printed a (text_data t) = json.string t
+  printed a (bytes_data b) = json.array (each whole b)
+  printed a unit_data = json.null
+  printed a nothing = json.array no_items
+  printed a (something d) = json.array (item (printed (inside_of a) d) no_items)
+  printed a (newtype_data d) = printed (inside_of a) d
+  printed a (seq_data ds) = json.array (printed_parts a 0 ds)
+  printed a (map_data ps) = json.array (printed_pairs a ps)
+  printed a (struct_data ds) = json.array (printed_fields a 0 ds)
+  printed a (enum_data n p) = json.array (item (whole n) (printed_payload p))
+
+  -- elements, from a place on
+  pub printed_parts : Option Shape → ℕ → Parts → Items
+  printed_parts a i no_parts = no_items
+  printed_parts a i (part d ds) = item (printed (element_of a i) d) (printed_parts a (i + 1) ds)
+
+  -- fields, from a place on
+  pub printed_fields : Option Shape → ℕ → Parts → Items
+  printed_fields a i no_parts = no_items
+  printed_fields a i (part d ds) = item (with_name (name_at a i) (printed (field_of a i) d)) (printed_fields a (i + 1) ds)
+
+  -- arrays of a key and its value
+  pub printed_pairs : Option Shape → DataPairs → Items
+  printed_pairs a no_pairs = no_items
+  printed_pairs a (pair k v ps) =
+      item (json.array (item (printed (key_of a) k) (item (printed (value_of a) v) no_items))) (printed_pairs a ps)
+
+  -- what comes after a variant's number, if anything
+  pub printed_payload : PayloadData → Items
+  printed_payload unit_payload = no_items
+  printed_payload (newtype_payload d) = item (printed None d) no_items
+  printed_payload (tuple_payload ds) = item (json.array (printed_parts None 0 ds)) no_items
+  printed_payload (struct_payload ds) = item (json.array (printed_fields None 0 ds)) no_items
 
 -- a name alone, and a name with what it is about
 abbrev pub alone : List ℕ → json.Data
@@ -70,11 +140,11 @@ printed_segment (segment.Enum variant) = about (codes "enum") (json.string varia
 printed_segment segment.Unknown = alone (codes "unknown")
 
 -- how an outcome is printed
-abbrev pub answer : Outcome Data → json.Data
-answer (given d) = json.object (member (codes "value") (printed d) no_members)
-answer (refused f path) =
+abbrev pub answer : Shape → Outcome Data → json.Data
+answer a (given d) = json.object (member (codes "value") (printed (Some a) d) no_members)
+answer a (refused f path) =
     json.object (member (codes "at") (json.string (path_text path)) (member (codes "fault") (printed_fault f) (member (codes "path") (json.array (each printed_segment path)) no_members)))
 
 -- its compact text, and the byte that ends a line
-abbrev pub line : Outcome Data → List ℕ
-line outcome = compact_text (answer outcome) ++ 10 ∷ []
+abbrev pub line : Shape → Outcome Data → List ℕ
+line a outcome = compact_text (answer a outcome) ++ 10 ∷ []

@@ -29,9 +29,13 @@ TookAtMost n old new = (taken : List ℕ) × (old ≡ with_front taken new) × (
 abbrev pub outcome_of : Document → Outcome Data
 outcome_of d = first d.shape d.input
 
--- the sink took the whole line of an outcome, and the status is the outcome's
-abbrev pub IsAnswer : Status → Outcome Data → Option (List ℕ) → Option (List ℕ) → Type 0
-IsAnswer status outcome old new = (status ≡ status_of outcome) × (new ≡ with_more old (line outcome))
+-- the line that answers a document
+abbrev pub line_of : Document → List ℕ
+line_of d = line d.shape (outcome_of d)
+
+-- the sink took the whole line of a document's answer, and the status is that of its outcome
+abbrev pub IsAnswer : Status → Document → Option (List ℕ) → Option (List ℕ) → Type 0
+IsAnswer status d old new = (status ≡ status_of (outcome_of d)) × (new ≡ with_more old (line_of d))
 
 -- the sink took a front of these bytes
 abbrev pub TookFront : List ℕ → Option (List ℕ) → Option (List ℕ) → Type 0
@@ -40,7 +44,7 @@ TookFront bytes old new = (n : ℕ) × (new ≡ with_more old (take n bytes))
 -- a document is answered, and bytes that are none are refused
 abbrev pub Concludes : Option Document → Status → Option (List ℕ) → Option (List ℕ) → Type 0
 Concludes None status old new = status ≡ BadDocument
-Concludes (Some d) status old new = IsAnswer status (outcome_of d) old new
+Concludes (Some d) status old new = IsAnswer status d old new
 
 -- the statuses that a whole stream may be replied to with
 abbrev pub IsReply : Status → Type 0

@@ -1,12 +1,14 @@
 -- The words of a document that name shapes and trees, over the JSON values that serde_json states.
-use Rattle.std.specs.Prelude.{ℕ, ℤ, ◌^◌, ◌-◌, List, [], ◌∷◌, pos, nat_le, if◌then◌else◌, Option, Some, None, option_map, option_and_then, codes}
+use Rattle.std.specs.Prelude.{ℕ, ℤ, ◌^◌, ◌-◌, List, [], ◌∷◌, map, pos, nat_le, if◌then◌else◌, Option, Some, None, option_map, option_and_then, codes}
 use Rattle.std.specs.Str.{bytes_eq, chars}
 use Rattle.serde_json.specs.Data as json
 use Rattle.serde_json.specs.Data.{Data, Items, no_items, item, Members, no_members, member}
 use Rattle.data_core.specs.Only.{only}
-use Rattle.data_core.specs.Node.{Node, nodes_of}
+use Rattle.data_core.specs.Node.{Node, nodes_of, pairs_of}
 use Rattle.data_core.specs.Node as node
-use Rattle.shape.specs.Shape.{Shape, shapes_of}
+use Rattle.data_core.specs.Order.{node_order}
+use Rattle.data_core.specs.Pairs.{put_all}
+use Rattle.shape.specs.Shape.{Shape, Shapes, shapes_of}
 use Rattle.shape.specs.Upgraded.{upgraded}
 use Rattle.shape.specs.First.{within}
 use Rattle.shape.specs.Shape as shape
@@ -26,6 +28,16 @@ name_in d = None
 abbrev pub named_in : Data → Option (List ℕ × Data)
 named_in (json.array (item n (item d no_items))) = option_map (λ name. (name, d)) (name_in n)
 named_in d = None
+
+-- the two values in an array of two
+abbrev pub two_in : Data → Option (Data × Data)
+two_in (json.array (item a (item b no_items))) = Some (a, b)
+two_in d = None
+
+-- two that are both there
+abbrev pub together : {A B : Type 0} → Option A → Option B → Option (A × B)
+together (Some a) (Some b) = Some (a, b)
+together a b = None
 
 -- a shape that has no parts
 abbrev pub word_shape : List ℕ → Option Shape
@@ -53,22 +65,48 @@ abbrev pub since_second : Version → Option Shape → Option Shape
 since_second version.First found = None
 since_second version.Second found = found
 
--- a shape under a tag, by what stands there, and the shape, the row and the named row that it is
-abbrev pub tagged_shape : Version → List ℕ → Data → Option Shape → Option (List Shape) → Option (List ℕ × List Shape) → Option Shape
-tagged_shape v tag d inside row named =
+-- names with shapes
+abbrev pub Fields : Type 0
+Fields = List (List ℕ × Shape)
+
+abbrev pub names_of : Fields → List (List ℕ)
+names_of fields = map (λ f. f.0) fields
+
+abbrev pub row_of_fields : Fields → Shapes
+row_of_fields fields = shapes_of (map (λ f. f.1) fields)
+
+-- what may stand under the tag of a shape: a shape, a row of them, two of them, and with a name a shape, a
+-- row and fields
+pub record Under : Type 0 where
+  pub inside : Option Shape
+  pub row : Option (List Shape)
+  pub both : Option (Shape × Shape)
+  pub named : Option (List ℕ × Shape)
+  pub named_row : Option (List ℕ × List Shape)
+  pub named_fields : Option (List ℕ × Fields)
+
+-- a shape under a tag, by what stands there
+abbrev pub tagged_shape : Version → List ℕ → Data → Under → Option Shape
+tagged_shape v tag d under =
     if bytes_eq tag (codes "unit_struct") then unit_struct_in d else (
-    if bytes_eq tag (codes "option") then option_map shape.option inside else (
-    if bytes_eq tag (codes "seq") then option_map shape.seq inside else (
-    if bytes_eq tag (codes "tuple") then option_map (λ a. shape.tuple (shapes_of a)) row else (
-    if bytes_eq tag (codes "tuple_struct") then option_map (λ a. shape.tuple_struct a.0 (shapes_of a.1)) named else (
-    if bytes_eq tag (codes "prefix") then since_second v (option_map (λ a. shape.prefix (shapes_of a)) row) else (
-    if bytes_eq tag (codes "prefix_struct") then since_second v (option_map (λ a. shape.prefix_struct a.0 (shapes_of a.1)) named) else None))))))
+    if bytes_eq tag (codes "option") then option_map shape.option under.inside else (
+    if bytes_eq tag (codes "seq") then option_map shape.seq under.inside else (
+    if bytes_eq tag (codes "tuple") then option_map (λ a. shape.tuple (shapes_of a)) under.row else (
+    if bytes_eq tag (codes "tuple_struct") then option_map (λ a. shape.tuple_struct a.0 (shapes_of a.1)) under.named_row else (
+    if bytes_eq tag (codes "map") then option_map (λ a. shape.map a.0 a.1) under.both else (
+    if bytes_eq tag (codes "newtype") then option_map (λ a. shape.newtype a.0 a.1) under.named else (
+    if bytes_eq tag (codes "struct") then option_map (λ a. shape.struct a.0 (names_of a.1) (row_of_fields a.1)) under.named_fields else (
+    if bytes_eq tag (codes "strict") then option_map (λ a. shape.strict a.0 (names_of a.1) (row_of_fields a.1)) under.named_fields else (
+    if bytes_eq tag (codes "loose") then since_second v (option_map (λ a. shape.loose a.0 (names_of a.1) (row_of_fields a.1)) under.named_fields) else (
+    if bytes_eq tag (codes "prefix") then since_second v (option_map (λ a. shape.prefix (shapes_of a)) under.row) else (
+    if bytes_eq tag (codes "prefix_struct") then since_second v (option_map (λ a. shape.prefix_struct a.0 (shapes_of a.1)) under.named_row) else None)))))))))))
 
 abbrev mutual
   -- the shape that is named in a document of this version
   pub shape_of : Version → Data → Option Shape
   shape_of v (json.string word) = word_shape word
-  shape_of v (json.object (member tag d no_members)) = tagged_shape v tag d (shape_of v d) (row_in v d) (named_row_in v d)
+  shape_of v (json.object (member tag d no_members)) =
+      tagged_shape v tag d record { inside = shape_of v d; row = row_in v d; both = shapes_in v d; named = named_shape_in v d; named_row = named_row_in v d; named_fields = named_fields_in v d }
   shape_of v d = None
 
   -- an array of shapes
@@ -85,6 +123,33 @@ abbrev mutual
   named_row_in v (json.array (item n (item d no_items))) =
       option_and_then (λ name. option_map (λ row. (name, row)) (row_in v d)) (name_in n)
   named_row_in v d = None
+
+  -- the shapes of keys and of values, in an array of the two
+  pub shapes_in : Version → Data → Option (Shape × Shape)
+  shapes_in v (json.array (item k (item d no_items))) = together (shape_of v k) (shape_of v d)
+  shapes_in v d = None
+
+  -- a name and a shape, in an array of the two
+  pub named_shape_in : Version → Data → Option (List ℕ × Shape)
+  named_shape_in v (json.array (item n (item d no_items))) = together (name_in n) (shape_of v d)
+  named_shape_in v d = None
+
+  -- a name and an array of fields, in an array of the two
+  pub named_fields_in : Version → Data → Option (List ℕ × Fields)
+  named_fields_in v (json.array (item n (item d no_items))) = together (name_in n) (fields_in v d)
+  named_fields_in v d = None
+
+  pub fields_in : Version → Data → Option Fields
+  fields_in v (json.array ds) = fields_of v ds
+  fields_in v d = None
+
+  pub fields_of : Version → Items → Option Fields
+  fields_of v no_items = Some []
+  fields_of v (item d ds) = option_and_then (λ f. option_map (λ fields. f ∷ fields) (fields_of v ds)) (named_shape_in v d)
+
+-- what stands under a tag
+abbrev pub under_in : Version → Data → Under
+under_in v d = record { inside = shape_of v d; row = row_in v d; both = shapes_in v d; named = named_shape_in v d; named_row = named_row_in v d; named_fields = named_fields_in v d }
 
 -- the shape that is meant: in a document of the first version the surplus of tuples is passed over
 abbrev pub meant : Version → Shape → Shape
@@ -139,11 +204,14 @@ scalar_under tag d =
     if bytes_eq tag (codes "String") then string_in d else (
     if bytes_eq tag (codes "Bytes") then bytes_in d else None)))))))))))
 
--- a tree under a tag, by what stands there, and the tree and the trees that it is
-abbrev pub tagged_tree : List ℕ → Data → Option Node → Option (List Node) → Option Node
-tagged_tree tag d inside elements =
+-- a tree under a tag, by what stands there, and the tree, the trees and the pairs of trees that it is; of
+-- equal keys the last one counts
+abbrev pub tagged_tree : List ℕ → Data → Option Node → Option (List Node) → Option (List (Node × Node)) → Option Node
+tagged_tree tag d inside elements entries =
     if bytes_eq tag (codes "Some") then option_map node.some inside else (
-    if bytes_eq tag (codes "Seq") then option_map (λ ts. node.seq (nodes_of ts)) elements else scalar_under tag d)
+    if bytes_eq tag (codes "Newtype") then option_map node.newtype inside else (
+    if bytes_eq tag (codes "Seq") then option_map (λ ts. node.seq (nodes_of ts)) elements else (
+    if bytes_eq tag (codes "Map") then option_map (λ ps. node.map (pairs_of (put_all node_order [] ps))) entries else scalar_under tag d)))
 
 -- a tree that has no tag
 abbrev pub word_tree : List ℕ → Option Node
@@ -154,7 +222,7 @@ word_tree word =
 abbrev mutual
   pub tree_of : Data → Option Node
   tree_of (json.string word) = word_tree word
-  tree_of (json.object (member tag d no_members)) = tagged_tree tag d (tree_of d) (trees_in d)
+  tree_of (json.object (member tag d no_members)) = tagged_tree tag d (tree_of d) (trees_in d) (entries_in d)
   tree_of d = None
 
   -- an array of trees
@@ -165,3 +233,17 @@ abbrev mutual
   pub trees_of : Items → Option (List Node)
   trees_of no_items = Some []
   trees_of (item d ds) = option_and_then (λ t. option_map (λ ts. t ∷ ts) (trees_of ds)) (tree_of d)
+
+  -- an array of pairs
+  pub entries_in : Data → Option (List (Node × Node))
+  entries_in (json.array ds) = entries_of ds
+  entries_in d = None
+
+  pub entries_of : Items → Option (List (Node × Node))
+  entries_of no_items = Some []
+  entries_of (item d ds) = option_and_then (λ p. option_map (λ ps. p ∷ ps) (entries_of ds)) (entry_in d)
+
+  -- a key and its value, in an array of the two
+  pub entry_in : Data → Option (Node × Node)
+  entry_in (json.array (item k (item d no_items))) = together (tree_of k) (tree_of d)
+  entry_in d = None

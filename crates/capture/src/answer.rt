@@ -39,7 +39,7 @@ fn respond_to(alloc: Global, document: Document) -> Result<Answer, AllocError>
     match read(alloc, &shape, input) {
         Ok(value) => Ok(Answer {
             status: Status::Accepted,
-            line: line_of(alloc, &answer_value(alloc, value)?)?,
+            line: line_of(alloc, &answer_value(alloc, &shape, value)?)?,
         }),
         Err(ReadError::Refused { path, fault }) => Ok(Answer {
             status: Status::Refused,

@@ -4,7 +4,7 @@ ghost use Rattle.data_core.specs.Outside.{IsAtEnd, HasFailed};
 ghost use Rattle.capture.specs.Document.{document};
 ghost use Rattle.capture.specs.Line.{line};
 ghost use Rattle.capture.specs.Status.{OnAnswer, OnWholeStream, OnSilence};
-ghost use Rattle.capture.specs.Run.{IsCommand, most_bytes, TookMore, TookAtMost, outcome_of, IsAnswer, TookFront, Concludes, IsReply};
+ghost use Rattle.capture.specs.Run.{IsCommand, most_bytes, TookMore, TookAtMost, line_of, IsAnswer, TookFront, Concludes, IsReply};
 
 use crate::answer::respond;
 use crate::status::Status;
@@ -36,13 +36,13 @@ pub fn run<S: Source, O: Out>(alloc: Global, words: &Names, source: &mut S, out:
 
     // The answer to a document is its outcome's line, whole and nothing else.
     ensures answer { OnAnswer result (IfSome (S.left source.old) (λ stream. IsSomeAnd (document stream)
-        (λ d. IsAnswer result (outcome_of d) (O.taken out.old) (O.taken out.new)))) }
+        (λ d. IsAnswer result d (O.taken out.old) (O.taken out.new)))) }
 
     // A fault of the sink is told exactly where there was one, and leaves a front of the line.
     ensures write_fault { result ≡ Status.WriteFault → HasFailed (O.faults out.old) (O.faults out.new) }
     ensures write_failed { O.faults out.old < O.faults out.new → result ≢ Status.Memory → result ≡ Status.WriteFault }
     ensures front { result ≡ Status.WriteFault → IfSome (S.left source.old) (λ stream. IsSomeAnd (document stream)
-        (λ d. TookFront (line (outcome_of d)) (O.taken out.old) (O.taken out.new))) }
+        (λ d. TookFront (line_of d) (O.taken out.old) (O.taken out.new))) }
     ensures silent { OnSilence result (O.taken out.new ≡ O.taken out.old) }
 
     // Where nothing failed, each stream has its answer.
@@ -77,11 +77,11 @@ fn reply<O: Out>(alloc: Global, bytes: &[u8], out: &mut O) -> Status
     ensures kind { IsReply result }
     ensures bad_document { result ≡ Status.BadDocument → document bytes.now ≡ None }
     ensures answer { OnAnswer result (IsSomeAnd (document bytes.now)
-        (λ d. IsAnswer result (outcome_of d) (O.taken out.old) (O.taken out.new))) }
+        (λ d. IsAnswer result d (O.taken out.old) (O.taken out.new))) }
     ensures write_fault { result ≡ Status.WriteFault → HasFailed (O.faults out.old) (O.faults out.new) }
     ensures write_failed { O.faults out.old < O.faults out.new → result ≡ Status.WriteFault }
     ensures front { result ≡ Status.WriteFault → IsSomeAnd (document bytes.now)
-        (λ d. TookFront (line (outcome_of d)) (O.taken out.old) (O.taken out.new)) }
+        (λ d. TookFront (line_of d) (O.taken out.old) (O.taken out.new)) }
     ensures silent { OnSilence result (O.taken out.new ≡ O.taken out.old) }
     ensures complete { ¬ HasFailed (O.faults out.old) (O.faults out.new) → result ≢ Status.Memory
         → Concludes (document bytes.now) result (O.taken out.old) (O.taken out.new) }

@@ -9,7 +9,7 @@ ghost use Rattle.capture.specs.Document.{document_view, document_in, document, i
 
 use crate::input::Input;
 use crate::version::Version;
-use crate::words;
+use crate::{tree_words, words};
 use serde_json::{Map, Value as Json};
 use shape::{Shape, upgrade};
 use std::alloc::{AllocError, Global};
@@ -141,7 +141,7 @@ fn input(alloc: Global, json: Json) -> Result<Option<Input>, AllocError>
     let Some(input) = take_member(json, "input") else {
         return Ok(None);
     };
-    match words::tree(alloc, input)? {
+    match tree_words::tree(alloc, input)? {
         Some(value) => Ok(Some(Input::Tree(value))),
         None => Ok(None),
     }

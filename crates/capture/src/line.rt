@@ -1,68 +1,17 @@
 //! The line that an answer is written as.
-ghost use Rattle.std.specs.Prelude.{◌≡◌, map, IfOk, encode_utf8};
+ghost use Rattle.std.specs.Prelude.{◌≡◌, IfOk};
 ghost use Rattle.serde_json.specs.Data.{array, string};
 ghost use Rattle.serde_json.specs.View.{view};
 ghost use Rattle.data_core.specs.Outcome.{given, refused};
-ghost use Rattle.shape.specs.Shape.{parts_of};
-ghost use Rattle.shape.specs.View.{data_view};
-ghost use Rattle.capture.specs.Line.{whole, each, printed, printed_parts, printed_fault, alone as alone_of, about as about_of, printed_segment, answer};
+ghost use Rattle.shape.specs.Shape as plain;
+ghost use Rattle.shape.specs.View.{data_view, shape_view};
+ghost use Rattle.capture.specs.Line.{each, printed_fault, alone as alone_of, about as about_of, printed_segment, answer};
 
+use crate::values::print;
 use data_core::{Fault, Path, Segment};
 use serde_json::{Value as Json, json};
-use shape::Data;
+use shape::{Data, Shape};
 use std::alloc::{AllocError, Global};
-
-/// How a value is printed.
-#[cycle(print)]
-fn print(alloc: Global, value: Data) -> Result<Json, AllocError>
-    ensures { IfOk result (λ json. view json ≡ printed (data_view value)) }
-{
-    match value {
-        Data::Bool(b) => Ok(Json::Bool(b)),
-        Data::Unsigned(n) => Ok(Json::from(n)),
-        Data::Signed(n) => Ok(Json::from(n)),
-        Data::Char(c) => print_char(alloc, c),
-        Data::Text(text) => Ok(Json::String(text.into_string())),
-        Data::Bytes(bytes) => print_bytes(alloc, &bytes),
-        Data::Unit => Ok(Json::Null),
-        Data::Option(None) => json!(in alloc; []),
-        Data::Option(Some(inside)) => {
-            let inside = print(alloc, inside.into_inner())?;
-            json!(in alloc; [inside])
-        }
-        Data::Seq(items) => print_items(alloc, items.into_vec()),
-    }
-}
-
-#[cycle(print)]
-#[tactic(auto, using(crate::proofs::Printing::printing))]
-fn print_items(alloc: Global, items: Vec<Data>) -> Result<Json, AllocError>
-    ensures { IfOk result (λ json. view json ≡ array (printed_parts (parts_of (map data_view items.items)))) }
-{
-    let mut printed = Vec::with_capacity(alloc, items.len())?;
-    for item in items {
-        printed.push(print(alloc, item)?)?;
-    }
-    Ok(Json::Array(printed))
-}
-
-fn print_char(alloc: Global, c: char) -> Result<Json, AllocError>
-    ensures { IfOk result (λ json. view json ≡ string (encode_utf8 c)) }
-{
-    let mut text = String::new(alloc);
-    text.push(c)?;
-    Ok(Json::String(text))
-}
-
-fn print_bytes(alloc: Global, bytes: &[u8]) -> Result<Json, AllocError>
-    ensures { IfOk result (λ json. view json ≡ array (each whole bytes.now)) }
-{
-    let mut items = Vec::with_capacity(alloc, bytes.len())?;
-    for byte in bytes {
-        items.push(Json::from(*byte))?;
-    }
-    Ok(Json::Array(items))
-}
 
 /// How a fault is printed: an array of its name and what it is about.
 fn print_fault(alloc: Global, fault: Fault) -> Result<Json, AllocError>
@@ -131,16 +80,16 @@ fn print_path(alloc: Global, path: &Path) -> Result<Json, AllocError>
 }
 
 /// How a value is answered.
-pub fn answer_value(alloc: Global, value: Data) -> Result<Json, AllocError>
-    ensures { IfOk result (λ json. view json ≡ answer (given (data_view value))) }
+pub fn answer_value(alloc: Global, shape: &Shape, value: Data) -> Result<Json, AllocError>
+    ensures { IfOk result (λ json. view json ≡ answer (shape_view shape.now) (given (data_view value))) }
 {
-    let value = print(alloc, value)?;
+    let value = print(alloc, Some(shape), value)?;
     json!(in alloc; {"value": value})
 }
 
 /// How a refusal is answered.
 pub fn answer_refusal(alloc: Global, path: Path, fault: Fault) -> Result<Json, AllocError>
-    ensures { IfOk result (λ json. view json ≡ answer (refused fault path)) }
+    ensures { (a : plain.Shape) → IfOk result (λ json. view json ≡ answer a (refused fault path)) }
 {
     let at = path.to_string(alloc)?;
     let steps = print_path(alloc, &path)?;

@@ -16,7 +16,12 @@ fn words(alloc: Global, texts: &[&str]) -> Result<Names, Fail> {
 }
 
 // The status of a command over these bytes, and what is written.
-fn ended(alloc: Global, texts: &[&str], bytes: &[u8], step: usize) -> Result<(u8, MemoryOut), Fail>
+pub fn ended(
+    alloc: Global,
+    texts: &[&str],
+    bytes: &[u8],
+    step: usize,
+) -> Result<(u8, MemoryOut), Fail>
     requires { 0 < step }
 {
     let names = words(alloc, texts)?;
@@ -121,6 +126,90 @@ fn answers_options(rt: HostRuntime) -> Result<(), Fail> {
         )?;
         let (code, out) = ended(rt.alloc(), &["read"], document.as_bytes(), 7)?;
         assert_eq!(rt; code, status, "{tree}");
+        assert_eq!(rt; out.bytes(), line.as_bytes(), "{tree}");
+    }
+    Ok(())
+}
+
+#[test]
+fn answers_maps(rt: HostRuntime) -> Result<(), Fail> {
+    let table = [
+        ("[]", 0, "{\"value\":[]}\n"),
+        (
+            "[[{\"String\":\"b\"},{\"U8\":2}],[{\"String\":\"a\"},{\"U8\":1}]]",
+            0,
+            "{\"value\":[[\"a\",1],[\"b\",2]]}\n",
+        ),
+        (
+            "[[{\"String\":\"a\"},\"Unit\"],[{\"String\":\"a\"},{\"U8\":2}]]",
+            0,
+            "{\"value\":[[\"a\",2]]}\n",
+        ),
+        (
+            "[[{\"Char\":\"a\"},{\"U8\":1}],[{\"String\":\"a\"},{\"U8\":2}]]",
+            0,
+            "{\"value\":[[\"a\",2]]}\n",
+        ),
+        (
+            "[[{\"String\":\"a\"},{\"U8\":1}],[{\"String\":\"b\"},\"Unit\"]]",
+            1,
+            "{\"at\":\"b\",\"fault\":[\"InvalidType\",\"Unit\"],\"path\":[[\"map\",\"b\"]]}\n",
+        ),
+        (
+            "[[{\"Char\":\"x\"},\"Unit\"]]",
+            1,
+            "{\"at\":\"?\",\"fault\":[\"InvalidType\",\"Unit\"],\"path\":[[\"unknown\"]]}\n",
+        ),
+        (
+            "[[{\"I8\":-7},\"Unit\"]]",
+            1,
+            "{\"at\":\"-7\",\"fault\":[\"InvalidType\",\"Signed\"],\"path\":[[\"map\",\"-7\"]]}\n",
+        ),
+        ("[[{\"U8\":1}]]", 3, ""),
+        ("[[{\"U8\":1},\"Unit\",\"Unit\"]]", 3, ""),
+        ("[[5,\"Unit\"]]", 3, ""),
+        ("5", 3, ""),
+    ];
+    for (pairs, status, line) in table {
+        let document = format!(in rt.alloc();
+            "{{\"shape\":{{\"map\":[\"text\",\"u8\"]}},\"kind\":\"tree\",\"input\":{{\"Map\":{pairs}}}}}"
+        )?;
+        let (code, out) = ended(rt.alloc(), &["read"], document.as_bytes(), 7)?;
+        assert_eq!(rt; code, status, "{pairs}");
+        assert_eq!(rt; out.bytes(), line.as_bytes(), "{pairs}");
+    }
+    Ok(())
+}
+
+#[test]
+fn answers_trees_that_are_refused_as_themselves(rt: HostRuntime) -> Result<(), Fail> {
+    let table = [
+        ("{\"Map\":[]}", "\"u8\"", "Map"),
+        ("{\"Map\":[]}", "{\"option\":\"u8\"}", "Map"),
+        ("{\"Map\":[]}", "{\"seq\":\"u8\"}", "Map"),
+        ("{\"Map\":[]}", "{\"tuple\":[]}", "Map"),
+        ("{\"Newtype\":{\"U8\":1}}", "\"u8\"", "NewtypeStruct"),
+        (
+            "{\"Newtype\":{\"U8\":1}}",
+            "{\"option\":\"u8\"}",
+            "NewtypeStruct",
+        ),
+        (
+            "{\"Newtype\":{\"Map\":[]}}",
+            "{\"map\":[\"u8\",\"u8\"]}",
+            "NewtypeStruct",
+        ),
+        ("{\"Seq\":[]}", "{\"map\":[\"u8\",\"u8\"]}", "Seq"),
+    ];
+    for (tree, shape, kind) in table {
+        let document = format!(in rt.alloc();
+            "{{\"shape\":{shape},\"kind\":\"tree\",\"input\":{tree}}}"
+        )?;
+        let line = format!(in rt.alloc();
+            "{{\"at\":\".\",\"fault\":[\"InvalidType\",\"{kind}\"],\"path\":[]}}\n"
+        )?;
+        let (code, out) = ended(rt.alloc(), &["read"], document.as_bytes(), 7)?;
+        assert_eq!(rt; code, 1, "{tree}");
         assert_eq!(rt; out.bytes(), line.as_bytes(), "{tree}");
     }
     Ok(())

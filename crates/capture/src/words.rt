@@ -1,19 +1,17 @@
-//! The words of a document that name shapes and trees.
-ghost use Rattle.std.specs.Prelude.{◌≡◌, ◌≤◌, ◌<◌, ◌^◌, ◌-◌, map, IfOk, IfSome, option_map};
-ghost use Rattle.serde_json.specs.View.{view, items_view, members_view};
-ghost use Rattle.data_core.specs.Node as node;
-ghost use Rattle.data_core.specs.Node.{nodes_of};
-ghost use Rattle.serde_value.specs.View.{node_view};
+//! The words of a document that name shapes.
+ghost use Rattle.std.specs.Prelude.{◌≡◌, length, map, IfOk, IfSome, option_map};
+ghost use Rattle.serde_json.specs.View.{view, items_view};
 ghost use Rattle.shape.specs.View.{shape_view};
-ghost use Rattle.capture.specs.Words.{word_shape as shape_named, tagged_shape as shape_under, unit_struct_in, shape_of, row_in, row_of, named_row_in, unsigned_in as unsigned_held, signed_in as signed_held, boolean_in, character_in, string_in, bytes_from, bytes_in, word_tree as tree_named, tagged_tree as tree_under, scalar_under, tree_of, trees_in, trees_of};
+ghost use Rattle.capture.specs.Words.{word_shape as shape_named, tagged_shape as shape_under, unit_struct_in, shape_of, under_in, row_in, row_of, named_row_in, named_shape_in, named_fields_in, fields_in, fields_of, shapes_in};
+ghost use Rattle.capture.specs.FieldsView.{fields_view};
 
-use crate::members::{sole_member, take_sole_member};
+use crate::members::sole_member;
 use crate::named::{name, named};
+use crate::twos::two;
 use crate::version::Version;
-use data_core::{Text, only_char};
+use data_core::Text;
 use serde_json::Value as Json;
-use serde_value::{Held, Items, Value};
-use shape::Shape;
+use shape::{Fields, MapShape, Shape};
 use std::alloc::{AllocError, Global};
 
 /// The shape that a JSON value is the word of, in a document of this version.
@@ -54,7 +52,7 @@ fn word_shape(word: &str) -> Option<Shape>
 }
 
 #[cycle(shape)]
-#[tactic(auto, using(shape::proofs::Views::views_of_rows))]
+#[tactic(auto, using(shape::proofs::Views::views_of_rows, crate::proofs::FieldViews::views))]
 fn tagged_shape(
     alloc: Global,
     version: Version,
@@ -62,8 +60,7 @@ fn tagged_shape(
     inside: &Json,
 ) -> Result<Option<Shape>, AllocError>
     ensures { IfOk result (λ found. option_map shape_view found
-        ≡ shape_under version tag.now (view inside.now) (shape_of version (view inside.now))
-        (row_in version (view inside.now)) (named_row_in version (view inside.now))) }
+        ≡ shape_under version tag.now (view inside.now) (under_in version (view inside.now))) }
 {
     let second = matches!(version, Version::Second);
     match tag {
@@ -82,6 +79,26 @@ fn tagged_shape(
         },
         "tuple_struct" => match named_row(alloc, version, inside)? {
             Some((name, row)) => Ok(Some(Shape::TupleStruct(name, row))),
+            None => Ok(None),
+        },
+        "map" => match map_shape(alloc, version, inside)? {
+            Some(shapes) => Ok(Some(Shape::Map(shapes))),
+            None => Ok(None),
+        },
+        "newtype" => match named_shape(alloc, version, inside)? {
+            Some((name, inside)) => Ok(Some(Shape::Newtype(name, inside))),
+            None => Ok(None),
+        },
+        "struct" => match named_fields(alloc, version, inside)? {
+            Some((name, fields)) => Ok(Some(Shape::Struct(name, fields))),
+            None => Ok(None),
+        },
+        "strict" => match named_fields(alloc, version, inside)? {
+            Some((name, fields)) => Ok(Some(Shape::Strict(name, fields))),
+            None => Ok(None),
+        },
+        "loose" if second => match named_fields(alloc, version, inside)? {
+            Some((name, fields)) => Ok(Some(Shape::Loose(name, fields))),
             None => Ok(None),
         },
         "prefix" if second => match row(alloc, version, inside)? {
@@ -108,6 +125,29 @@ fn boxed_shape(
         Some(inside) => Ok(Some(Box::new(alloc, inside)?)),
         None => Ok(None),
     }
+}
+
+// The shapes of keys and of values, in an array of the two.
+#[cycle(shape)]
+#[tactic(auto, using(crate::proofs::TwoValues::shapes))]
+fn map_shape(
+    alloc: Global,
+    version: Version,
+    json: &Json,
+) -> Result<Option<Box<MapShape>>, AllocError>
+    ensures { IfOk result (λ found. option_map (λ b. (shape_view b.value.key, shape_view b.value.value)) found
+        ≡ shapes_in version (view json.now)) }
+{
+    let Some((key, value)) = two(json) else {
+        return Ok(None);
+    };
+    let Some(key) = shape(alloc, version, key)? else {
+        return Ok(None);
+    };
+    let Some(value) = shape(alloc, version, value)? else {
+        return Ok(None);
+    };
+    Ok(Some(Box::new(alloc, MapShape { key, value })?))
 }
 
 // Shapes in an array.
@@ -156,6 +196,95 @@ fn named_row(
     }
 }
 
+// A name and a shape, in an array of the two.
+#[cycle(shape)]
+#[tactic(auto, using(crate::proofs::NamePairs::shapes))]
+fn named_shape(
+    alloc: Global,
+    version: Version,
+    json: &Json,
+) -> Result<Option<(Text, Box<Shape>)>, AllocError>
+    ensures { IfOk result (λ found. option_map (λ n. (n.0, shape_view n.1.value)) found
+        ≡ named_shape_in version (view json.now)) }
+{
+    let Some((name, inside)) = named(json) else {
+        return Ok(None);
+    };
+    match boxed_shape(alloc, version, inside)? {
+        Some(inside) => Ok(Some((Text::new(alloc, name)?, inside))),
+        None => Ok(None),
+    }
+}
+
+// A name and an array of fields, in an array of the two.
+#[cycle(shape)]
+#[tactic(auto, using(crate::proofs::NamePairs::structs))]
+fn named_fields(
+    alloc: Global,
+    version: Version,
+    json: &Json,
+) -> Result<Option<(Text, Fields)>, AllocError>
+    ensures fields { IfOk result (λ found. option_map (λ n. (n.0, fields_view n.1)) found
+        ≡ named_fields_in version (view json.now)) }
+    ensures even { IfOk result (λ found. IfSome found (λ n. length n.1.names ≡ length n.1.shapes.items)) }
+{
+    let Some((name, inside)) = named(json) else {
+        return Ok(None);
+    };
+    match fields(alloc, version, inside)? {
+        Some(fields) => Ok(Some((Text::new(alloc, name)?, fields))),
+        None => Ok(None),
+    }
+}
+
+#[cycle(shape)]
+fn fields(alloc: Global, version: Version, json: &Json) -> Result<Option<Fields>, AllocError>
+    ensures fields { IfOk result (λ found. option_map fields_view found ≡ fields_in version (view json.now)) }
+    ensures even { IfOk result (λ found. IfSome found (λ f. length f.names ≡ length f.shapes.items)) }
+{
+    match json {
+        Json::Array(items) => fields_of_items(alloc, version, items),
+        _ => Ok(None),
+    }
+}
+
+#[cycle(shape)]
+#[tactic(auto, using(crate::proofs::Elements::steps))]
+fn fields_of_items(
+    alloc: Global,
+    version: Version,
+    items: &[Json],
+) -> Result<Option<Fields>, AllocError>
+    ensures fields { IfOk result (λ found. option_map fields_view found ≡ fields_of version (items_view items.now)) }
+    ensures even { IfOk result (λ found. IfSome found (λ f. length f.names ≡ length f.shapes.items)) }
+{
+    let mut fields = Fields::new(alloc);
+    for item in items {
+        let Some((name, inside)) = field(alloc, version, item)? else {
+            return Ok(None);
+        };
+        if fields.push(name, inside).is_err() {
+            return Err(AllocError);
+        }
+    }
+    Ok(Some(fields))
+}
+
+#[cycle(shape)]
+#[tactic(auto, using(crate::proofs::NamePairs::shapes))]
+fn field(alloc: Global, version: Version, json: &Json) -> Result<Option<(Text, Shape)>, AllocError>
+    ensures { IfOk result (λ found. option_map (λ n. (n.0, shape_view n.1)) found
+        ≡ named_shape_in version (view json.now)) }
+{
+    let Some((name, inside)) = named(json) else {
+        return Ok(None);
+    };
+    match shape(alloc, version, inside)? {
+        Some(inside) => Ok(Some((Text::new(alloc, name)?, inside))),
+        None => Ok(None),
+    }
+}
+
 fn unit_struct(alloc: Global, json: &Json) -> Result<Option<Shape>, AllocError>
     ensures { IfOk result (λ found. option_map shape_view found ≡ unit_struct_in (view json.now)) }
 {
@@ -163,228 +292,4 @@ fn unit_struct(alloc: Global, json: &Json) -> Result<Option<Shape>, AllocError>
         Some(name) => Ok(Some(Shape::UnitStruct(Text::new(alloc, name)?))),
         None => Ok(None),
     }
-}
-
-/// The tree that a JSON value is the word of.
-#[cycle(tree)]
-#[tactic(auto, using(crate::proofs::SoleMember::soles))]
-pub fn tree(alloc: Global, json: Json) -> Result<Option<Value>, AllocError>
-    ensures { IfOk result (λ found. option_map node_view found ≡ tree_of (view json)) }
-{
-    match json {
-        Json::String(word) => Ok(word_tree(word.as_str())),
-        Json::Object(members) => match take_sole_member(members) {
-            Some((tag, inside)) => tagged_tree(alloc, tag.as_str(), inside),
-            None => Ok(None),
-        },
-        _ => Ok(None),
-    }
-}
-
-fn word_tree(word: &str) -> Option<Value>
-    ensures { option_map node_view result ≡ tree_named word.now }
-{
-    match word {
-        "Unit" => Some(Value::Unit),
-        "None" => Some(Value::Option(None)),
-        _ => None,
-    }
-}
-
-#[cycle(tree)]
-fn tagged_tree(alloc: Global, tag: &str, inside: Json) -> Result<Option<Value>, AllocError>
-    ensures { IfOk result (λ found. option_map node_view found
-        ≡ tree_under tag.now (view inside) (tree_of (view inside)) (trees_in (view inside))) }
-{
-    match tag {
-        "Some" => match tree(alloc, inside)? {
-            Some(inside) => {
-                let held = Held::from_box(Box::new(alloc, inside)?);
-                Ok(Some(Value::Option(Some(held))))
-            }
-            None => Ok(None),
-        },
-        "Seq" => seq(alloc, inside),
-        _ => tagged_scalar(alloc, tag, inside),
-    }
-}
-
-#[cycle(tree)]
-fn seq(alloc: Global, json: Json) -> Result<Option<Value>, AllocError>
-    ensures { IfOk result (λ found. option_map node_view found
-        ≡ option_map (λ ts. node.seq (nodes_of ts)) (trees_in (view json))) }
-{
-    let Json::Array(items) = json else {
-        return Ok(None);
-    };
-    match trees(alloc, items)? {
-        Some(items) => Ok(Some(Value::Seq(Items::from_vec(items)))),
-        None => Ok(None),
-    }
-}
-
-#[cycle(tree)]
-fn trees(alloc: Global, items: Vec<Json>) -> Result<Option<Vec<Value>>, AllocError>
-    ensures { IfOk result (λ found. option_map (λ v. map node_view v.items) found ≡ trees_of (items_view items.items)) }
-{
-    let mut trees = Vec::with_capacity(alloc, items.len())?;
-    for item in items {
-        let Some(inside) = tree(alloc, item)? else {
-            return Ok(None);
-        };
-        trees.push(inside)?;
-    }
-    Ok(Some(trees))
-}
-
-fn tagged_scalar(alloc: Global, tag: &str, inside: Json) -> Result<Option<Value>, AllocError>
-    ensures { IfOk result (λ found. option_map node_view found ≡ scalar_under tag.now (view inside)) }
-{
-    match tag {
-        "Bool" => Ok(boolean(inside)),
-        "U8" => Ok(u8_tree(inside)),
-        "U16" => Ok(u16_tree(inside)),
-        "U32" => Ok(u32_tree(inside)),
-        "U64" => Ok(u64_tree(inside)),
-        "I8" => Ok(i8_tree(inside)),
-        "I16" => Ok(i16_tree(inside)),
-        "I32" => Ok(i32_tree(inside)),
-        "I64" => Ok(i64_tree(inside)),
-        "Char" => Ok(character(inside)),
-        "String" => Ok(string(inside)),
-        "Bytes" => bytes(alloc, inside),
-        _ => Ok(None),
-    }
-}
-
-fn boolean(json: Json) -> Option<Value>
-    ensures { option_map node_view result ≡ boolean_in (view json) }
-{
-    match json {
-        Json::Bool(b) => Some(Value::Bool(b)),
-        _ => None,
-    }
-}
-
-fn u8_tree(json: Json) -> Option<Value>
-    ensures { option_map node_view result ≡ option_map node.u8 (unsigned_held (2 ^ 8 - 1) (view json)) }
-{
-    let n = unsigned_in(&json, u64::from(u8::MAX))?;
-    Some(Value::U8(n as u8))
-}
-
-fn u16_tree(json: Json) -> Option<Value>
-    ensures { option_map node_view result ≡ option_map node.u16 (unsigned_held (2 ^ 16 - 1) (view json)) }
-{
-    let n = unsigned_in(&json, u64::from(u16::MAX))?;
-    Some(Value::U16(n as u16))
-}
-
-fn u32_tree(json: Json) -> Option<Value>
-    ensures { option_map node_view result ≡ option_map node.u32 (unsigned_held (2 ^ 32 - 1) (view json)) }
-{
-    let n = unsigned_in(&json, u64::from(u32::MAX))?;
-    Some(Value::U32(n as u32))
-}
-
-fn u64_tree(json: Json) -> Option<Value>
-    ensures { option_map node_view result ≡ option_map node.u64 (unsigned_held (2 ^ 64 - 1) (view json)) }
-{
-    let n = unsigned_in(&json, u64::MAX)?;
-    Some(Value::U64(n))
-}
-
-// A number up to the greatest.
-fn unsigned_in(json: &Json, greatest: u64) -> Option<u64>
-    ensures number { result ≡ unsigned_held greatest (view json.now) }
-    ensures within { IfSome result (λ n. n ≤ greatest) }
-{
-    match json.as_u64() {
-        Some(n) if n <= greatest => Some(n),
-        _ => None,
-    }
-}
-
-fn i8_tree(json: Json) -> Option<Value>
-    ensures { option_map node_view result ≡ option_map node.i8 (signed_held (2 ^ 7 - 1) (view json)) }
-{
-    let n = json.as_i64()?;
-    match i8::try_from(n) {
-        Ok(n) => Some(Value::I8(n)),
-        Err(_) => None,
-    }
-}
-
-fn i16_tree(json: Json) -> Option<Value>
-    ensures { option_map node_view result ≡ option_map node.i16 (signed_held (2 ^ 15 - 1) (view json)) }
-{
-    let n = json.as_i64()?;
-    match i16::try_from(n) {
-        Ok(n) => Some(Value::I16(n)),
-        Err(_) => None,
-    }
-}
-
-fn i32_tree(json: Json) -> Option<Value>
-    ensures { option_map node_view result ≡ option_map node.i32 (signed_held (2 ^ 31 - 1) (view json)) }
-{
-    let n = json.as_i64()?;
-    match i32::try_from(n) {
-        Ok(n) => Some(Value::I32(n)),
-        Err(_) => None,
-    }
-}
-
-fn i64_tree(json: Json) -> Option<Value>
-    ensures { option_map node_view result ≡ option_map node.i64 (signed_held (2 ^ 63 - 1) (view json)) }
-{
-    let n = json.as_i64()?;
-    Some(Value::I64(n))
-}
-
-fn character(json: Json) -> Option<Value>
-    ensures { option_map node_view result ≡ character_in (view json) }
-{
-    match json {
-        Json::String(text) => match only_char(text.as_str()) {
-            Some(c) => Some(Value::Char(c)),
-            None => None,
-        },
-        _ => None,
-    }
-}
-
-fn string(json: Json) -> Option<Value>
-    ensures { option_map node_view result ≡ string_in (view json) }
-{
-    match json {
-        Json::String(text) => Some(Value::String(text)),
-        _ => None,
-    }
-}
-
-fn bytes(alloc: Global, json: Json) -> Result<Option<Value>, AllocError>
-    ensures { IfOk result (λ found. option_map node_view found ≡ bytes_in (view json)) }
-{
-    match json {
-        Json::Array(items) => match numbers(alloc, &items)? {
-            Some(bytes) => Ok(Some(Value::Bytes(bytes))),
-            None => Ok(None),
-        },
-        _ => Ok(None),
-    }
-}
-
-// Numbers from 0 to 255.
-fn numbers(alloc: Global, items: &Vec<Json>) -> Result<Option<Vec<u8>>, AllocError>
-    ensures { IfOk result (λ found. option_map (λ v. v.items) found ≡ bytes_from (items_view items.now.items)) }
-{
-    let mut bytes = Vec::with_capacity(alloc, items.len())?;
-    for item in items {
-        let Some(n) = unsigned_in(item, u64::from(u8::MAX)) else {
-            return Ok(None);
-        };
-        bytes.push(n as u8)?;
-    }
-    Ok(Some(bytes))
 }

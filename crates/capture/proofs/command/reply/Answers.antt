@@ -25,7 +25,7 @@ returns-in-Ok-clause-answer g c =
     let d = answered_document (document c.args.bytes.now) c.in-Ok-Some.answer.status text found in
     let taken = rw c.as_bytes.ensures.value at c.in-Ok.ensures.ok in
     let answers = line_answers (document c.args.bytes.now) c.in-Ok-Some.answer.status text (g.O.Out.taken c.args.out.now) (g.O.Out.taken c.write_line.new.out) found taken in
-    subst (λ status. OnAnswer status (IsSomeAnd (document c.args.bytes.now) (λ e. IsAnswer c.in-Ok-Some.answer.status (outcome_of e) (g.O.Out.taken c.args.out.now) (g.O.Out.taken c.write_line.new.out))))
+    subst (λ status. OnAnswer status (IsSomeAnd (document c.args.bytes.now) (λ e. IsAnswer c.in-Ok-Some.answer.status e (g.O.Out.taken c.args.out.now) (g.O.Out.taken c.write_line.new.out))))
     (sym d.2) (status_answers (outcome_of d.0) _ answers)
 
 pub returns-in-Ok-clause-write_fault : goal.returns-in-Ok-clause-write_fault

@@ -27,7 +27,7 @@ returns-in-Ok-clause-answer g c =
     let out = g.O.Out in
     let taken = c.in-Ok.ensures.taken (λ wrong. cc) in
     let answer = rw c.deref.ensures.value at c.reply.ensures.answer in
-    let P : List ℕ → Type 0 = λ stream. IsSomeAnd (document stream) (λ d. IsAnswer c.reply.result (outcome_of d) (out.taken c.args.out.now) (out.taken c.reply.new.out)) in
+    let P : List ℕ → Type 0 = λ stream. IsSomeAnd (document stream) (λ d. IsAnswer c.reply.result d (out.taken c.args.out.now) (out.taken c.reply.new.out)) in
     answers_more c.reply.result (P c.read_stream.new.bytes.items) (IfSome (source.left c.args.source.now) P)
     (whole_stream (source.left c.args.source.now) (source.left c.read_stream.new.source) c.read_stream.new.bytes.items P taken c.in-Ok.ensures.end)
     answer

@@ -4,7 +4,7 @@ use Rattle.serde_json.specs.View.{view}
 use Rattle.serde_json.proofs.Views.{view-Array}
 use Rattle.capture.specs.Line.{whole}
 use Rattle.capture.proofs.Printing.{each-step, each-end}
-use Rattle.capture.proofs.line.print_bytes.Goals as goal
+use Rattle.capture.proofs.values.print_bytes.Goals as goal
 
 pub loop-byte-preserved : goal.loop-byte-preserved
 loop-byte-preserved c =

@@ -1,0 +1,18 @@
+-- The shapes of a row, by their places.
+use Rattle.std.proofs.Common.{◌≡◌, ℕ, zero, suc, ◌<◌, ◌≤◌, List, [], ◌∷◌, length, get_or, Some, None, map, refl, arith}
+use Rattle.shape.specs.Shape.{shapes_of}
+use Rattle.shape.specs.View.{shape_view}
+use Rattle.shape.specs.declared.shapes.Shape.{Shape}
+use Rattle.capture.specs.Line.{shape_at}
+
+pub shape_at-within : (all : List Shape) (i : ℕ) (a : Shape) → i < length all → shape_at (shapes_of (map shape_view all)) i ≡ Some (shape_view (get_or all i a))
+shape_at-within [] i a h = absurd (omega arith)
+shape_at-within (b ∷ rest) zero a h = refl
+shape_at-within (b ∷ rest) (suc i) a h = shape_at-within rest i a (omega arith)
+
+pub shape_at-past : (all : List Shape) (i : ℕ) → length all ≤ i → shape_at (shapes_of (map shape_view all)) i ≡ None
+shape_at-past [] i h = refl
+shape_at-past (b ∷ rest) zero h = absurd (omega arith)
+shape_at-past (b ∷ rest) (suc i) h = shape_at-past rest i (omega arith)
+
+pub ruleset rows = (shape_at-within, shape_at-past)

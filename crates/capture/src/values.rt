@@ -1,0 +1,144 @@
+//! How values are printed.
+ghost use Rattle.std.specs.Prelude.{◌≡◌, ℕ, List, Option, map, option_map, IfOk, encode_utf8};
+ghost use Rattle.serde_json.specs.Data.{array, string, item, no_items};
+ghost use Rattle.serde_json.specs.View.{view};
+ghost use Rattle.shape.specs.Shape.{parts_of, pairs_of};
+ghost use Rattle.shape.specs.View.{data_view, pair_view, payload_view};
+ghost use Rattle.capture.specs.Line.{whole, each, element_of, field_of, name_at, with_name as named_by, printed, printed_parts, printed_fields, printed_pairs, printed_payload, key_of, value_of};
+ghost use Rattle.capture.specs.LentShape.{lent};
+
+use crate::shape_parts::{
+    element_shape, field_name, field_shape, inside_shape, key_shape, value_shape,
+};
+use serde_json::{Value as Json, json};
+use shape::{Data, Payload, Shape};
+use std::alloc::{AllocError, Global};
+
+/// How a value of a shape is printed. What is of no such shape is printed without the names of fields.
+#[cycle(print)]
+pub fn print(alloc: Global, shape: Option<&Shape>, value: Data) -> Result<Json, AllocError>
+    ensures { IfOk result (λ json. view json ≡ printed (lent shape.entry) (data_view value)) }
+{
+    match value {
+        Data::Bool(b) => Ok(Json::Bool(b)),
+        Data::Unsigned(n) => Ok(Json::from(n)),
+        Data::Signed(n) => Ok(Json::from(n)),
+        Data::Char(c) => print_char(alloc, c),
+        Data::Text(text) => Ok(Json::String(text.into_string())),
+        Data::Bytes(bytes) => print_bytes(alloc, &bytes),
+        Data::Unit => Ok(Json::Null),
+        Data::Option(None) => json!(in alloc; []),
+        Data::Option(Some(inside)) => {
+            let inside = print(alloc, inside_shape(shape), inside.into_inner())?;
+            json!(in alloc; [inside])
+        }
+        Data::Newtype(inside) => print(alloc, inside_shape(shape), inside.into_inner()),
+        Data::Seq(items) => print_items(alloc, shape, items.into_vec()),
+        Data::Map(pairs) => print_pairs(alloc, shape, pairs.into_vec()),
+        Data::Struct(items) => print_fields(alloc, shape, items.into_vec()),
+        Data::Enum(number, payload) => print_variant(alloc, number, payload),
+    }
+}
+
+// Elements, each by the shape of its place.
+#[cycle(print)]
+#[tactic(auto, using(crate::proofs::Printing::printing))]
+fn print_items(alloc: Global, shape: Option<&Shape>, items: Vec<Data>) -> Result<Json, AllocError>
+    ensures { IfOk result (λ json. view json ≡ array (printed_parts (lent shape.entry) 0 (parts_of (map data_view items.items)))) }
+{
+    let mut printed = Vec::with_capacity(alloc, items.len())?;
+    for item in items {
+        let element = element_shape(shape, printed.len());
+        printed.push(print(alloc, element, item)?)?;
+    }
+    Ok(Json::Array(printed))
+}
+
+// Fields, each by its name and the shape of its place.
+#[cycle(print)]
+#[tactic(auto, using(crate::proofs::Printing::printing))]
+fn print_fields(alloc: Global, shape: Option<&Shape>, items: Vec<Data>) -> Result<Json, AllocError>
+    ensures { IfOk result (λ json. view json ≡ array (printed_fields (lent shape.entry) 0 (parts_of (map data_view items.items)))) }
+{
+    let mut printed = Vec::with_capacity(alloc, items.len())?;
+    for item in items {
+        let place = printed.len();
+        let field = print(alloc, field_shape(shape, place), item)?;
+        printed.push(with_name(alloc, field_name(shape, place), field)?)?;
+    }
+    Ok(Json::Array(printed))
+}
+
+// A field with its name, if it has one.
+fn with_name(alloc: Global, name: Option<&str>, field: Json) -> Result<Json, AllocError>
+    ensures { IfOk result (λ json. view json ≡ named_by (option_map (λ n. n.now) name.entry) (view field)) }
+{
+    match name {
+        Some(name) => json!(in alloc; [name, field]),
+        None => Ok(field),
+    }
+}
+
+// Arrays of a key and its value.
+#[cycle(print)]
+#[tactic(auto, using(crate::proofs::Printing::printing))]
+fn print_pairs(
+    alloc: Global,
+    shape: Option<&Shape>,
+    pairs: Vec<(Data, Data)>,
+) -> Result<Json, AllocError>
+    ensures { IfOk result (λ json. view json ≡ array (printed_pairs (lent shape.entry) (pairs_of (map pair_view pairs.items)))) }
+{
+    let mut printed = Vec::with_capacity(alloc, pairs.len())?;
+    for (key, value) in pairs {
+        printed.push(print_pair(alloc, shape, key, value)?)?;
+    }
+    Ok(Json::Array(printed))
+}
+
+#[cycle(print)]
+fn print_pair(
+    alloc: Global,
+    shape: Option<&Shape>,
+    key: Data,
+    value: Data,
+) -> Result<Json, AllocError>
+    ensures { IfOk result (λ json. view json ≡ array (item (printed (key_of (lent shape.entry)) (data_view key))
+        (item (printed (value_of (lent shape.entry)) (data_view value)) no_items))) }
+{
+    let key = print(alloc, key_shape(shape), key)?;
+    let value = print(alloc, value_shape(shape), value)?;
+    json!(in alloc; [key, value])
+}
+
+// A variant by its number, and what it holds, if anything.
+#[cycle(print)]
+fn print_variant(alloc: Global, number: usize, payload: Payload) -> Result<Json, AllocError>
+    ensures { IfOk result (λ json. view json ≡ array (item (whole number) (printed_payload (payload_view payload)))) }
+{
+    let inside = match payload {
+        Payload::Unit => return json!(in alloc; [number]),
+        Payload::Newtype(inside) => print(alloc, None, inside.into_inner())?,
+        Payload::Tuple(items) => print_items(alloc, None, items.into_vec())?,
+        Payload::Struct(items) => print_fields(alloc, None, items.into_vec())?,
+    };
+    json!(in alloc; [number, inside])
+}
+
+fn print_char(alloc: Global, c: char) -> Result<Json, AllocError>
+    ensures { IfOk result (λ json. view json ≡ string (encode_utf8 c)) }
+{
+    let mut text = String::new(alloc);
+    text.push(c)?;
+    Ok(Json::String(text))
+}
+
+fn print_bytes(alloc: Global, bytes: &[u8]) -> Result<Json, AllocError>
+    ensures { IfOk result (λ json. view json ≡ array (each whole bytes.now)) }
+{
+    let mut items = Vec::with_capacity(alloc, bytes.len())?;
+    for byte in bytes {
+        items.push(Json::from(*byte))?;
+    }
+    Ok(Json::Array(items))
+}
