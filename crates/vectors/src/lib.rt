@@ -2,10 +2,18 @@
 #![tactic(auto)]
 
 #[cfg(test)]
+mod events;
+#[cfg(test)]
 mod lenient;
+#[cfg(test)]
+mod maps;
+#[cfg(test)]
+mod newtypes;
 #[cfg(test)]
 mod options;
 #[cfg(test)]
 mod paths;
 #[cfg(test)]
 mod sequences;
+#[cfg(test)]
+mod skipping;

@@ -1,0 +1,91 @@
+//! Maps that are read from trees.
+
+use capture::read_any;
+use data_core::{Deserializer, Fault, Kind};
+use data_std::{Error, MapDeserializer, MapEntries};
+use serde_path_to_error::{deserialize, deserialize_seed};
+use serde_value::{Value, ValueDeserializer, ValueMap};
+use shape::{MapShape, Shape, ShapeSeed};
+use std::alloc::{AllocError, Global};
+use std::collections::BTreeMap;
+use std::test::Fail;
+
+// A deserializer over a tree.
+type Tree = ValueDeserializer<Error>;
+
+// A map of 1 to 10, and of 2 to this value.
+fn to_ten(alloc: Global, value: Value) -> Result<Value, AllocError> {
+    let mut map = ValueMap::new(alloc);
+    for (key, value) in [(1, Value::U8(10)), (2, value)] {
+        if map.insert(Value::U8(key), value).is_err() {
+            return Err(AllocError);
+        }
+    }
+    Ok(Value::Map(map))
+}
+
+fn numbers(alloc: Global) -> Result<Shape, AllocError> {
+    let shapes = MapShape {
+        key: Shape::U8,
+        value: Shape::U8,
+    };
+    Ok(Shape::Map(Box::new(alloc, shapes)?))
+}
+
+#[test]
+fn one_path_by_each_call(rt: HostRuntime) -> Result<(), Fail> {
+    let alloc = rt.alloc();
+    let shape = numbers(alloc)?;
+    let bad = to_ten(alloc, Value::Unit)?;
+    let by_type = deserialize::<Tree, BTreeMap<u8, u8>>(alloc, Tree::new(alloc, bad));
+    let bad = to_ten(alloc, Value::Unit)?;
+    let by_seed = deserialize_seed(alloc, Tree::new(alloc, bad), ShapeSeed::new(&shape));
+    let bad = to_ten(alloc, Value::Unit)?;
+    let by_shape = read_any(alloc, &shape, Tree::new(alloc, bad));
+    for refusal in [by_type.err(), by_seed.err(), by_shape.err()] {
+        let error = refusal.ok_or("not refused")?;
+        assert_eq!(rt; error.path().to_string(alloc)?.as_str(), "2");
+        match error.into_inner() {
+            Error::Fault { cause, text } => {
+                assert!(rt; matches!(cause, Fault::InvalidType(Kind::Unit)));
+                drop(text);
+            }
+            Error::Memory => panic!(rt; "no memory"),
+        }
+    }
+    Ok(())
+}
+
+#[test]
+fn a_map_of_a_type(rt: HostRuntime) -> Result<(), Fail> {
+    let alloc = rt.alloc();
+    let tree = to_ten(alloc, Value::U16(20))?;
+    match deserialize::<Tree, BTreeMap<u8, u8>>(alloc, Tree::new(alloc, tree)) {
+        Ok(map) => {
+            assert_eq!(rt; map.len(), 2);
+            assert_eq!(rt; map.get(&1).copied(), Some(10));
+            assert_eq!(rt; map.get(&2).copied(), Some(20));
+        }
+        Err(_) => panic!(rt; "refused"),
+    }
+    Ok(())
+}
+
+#[test]
+fn the_end_after_nothing_of_one_pair(rt: HostRuntime) -> Result<(), Fail> {
+    let alloc = rt.alloc();
+    let pair = (
+        Tree::new(alloc, Value::U8(1)),
+        Tree::new(alloc, Value::Unit),
+    );
+    let entries = MapEntries::new(alloc, vec![in alloc; pair]?);
+    assert_eq!(rt; MapDeserializer::<Tree>::entries_left(&entries), Some(1));
+    match entries.end(alloc) {
+        Err(Error::Fault { cause, text }) => {
+            assert!(rt; matches!(cause, Fault::InvalidLength(1)));
+            drop(text);
+        }
+        _ => panic!(rt; "not refused"),
+    }
+    Ok(())
+}
