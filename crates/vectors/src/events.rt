@@ -1,10 +1,11 @@
 //! A reader by hand that keeps a tree, and reads it once it knows as what.
 ghost use Rattle.data_core.specs.Ask as asks;
+ghost use Rattle.data_core.specs.Outcome.{Among};
 
 use data_core::{
     DeError, DeserializeSeed, Deserializer, Fault, Hint, Kind, Names, Shown, Text, Track, refused,
 };
-use data_std::{Error, IgnoredAny, next_key, next_value};
+use data_std::{Error, next_entry};
 use serde_path_to_error::deserialize_seed;
 use serde_value::{Value, ValueDeserializer, ValueMap};
 use std::alloc::{AllocError, Global};
@@ -26,21 +27,39 @@ struct EventSeed {
 }
 
 impl EventSeed {
-    // An object of a kind.
-    fn event<E: DeError>(
-        &self,
-        alloc: Global,
-        kind: &str,
-        object: Value,
-        track: &mut Track,
-    ) -> Result<Event, E> {
+    // An object of a kind. What is read of the tree that is kept has a track of its own.
+    fn event<E: DeError>(&self, alloc: Global, kind: &str, object: Value) -> Result<Event, E> {
         let d = ValueDeserializer::<E>::new(alloc, object);
+        let mut track = Track::new(alloc);
         match kind {
-            "ADDED" => Ok(Event::Added(data_std::deserialize(alloc, d, track)?)),
-            "ERROR" => Ok(Event::Error(data_std::deserialize(alloc, d, track)?)),
+            "ADDED" => Ok(Event::Added(data_std::deserialize(alloc, d, &mut track)?)),
+            "ERROR" => Ok(Event::Error(data_std::deserialize(alloc, d, &mut track)?)),
             _ => Err(E::unknown_variant(alloc, kind, &self.kinds)),
         }
     }
+}
+
+// The entries of a map that are an event's: its kind and its object.
+fn entries<D: Deserializer>(
+    alloc: Global,
+    map: &mut D::Map,
+    track: &mut Track,
+) -> Result<(Value, Value), D::Error>
+    ensures { Among D.Error.fault D.tracks result (λ _. Unit {0}) track.old track.new }
+{
+    let mut kind = Value::Unit;
+    let mut object = Value::Unit;
+    'pairs: for _ in 0..u64::MAX {
+        let Some((name, value)) = next_entry::<D, String, Value>(alloc, map, track)? else {
+            break;
+        };
+        match name.as_str() {
+            "kind" => kind = value,
+            "object" => object = value,
+            _ => drop(value),
+        }
+    }
+    Ok((kind, object))
 }
 
 impl DeserializeSeed for EventSeed {
@@ -57,6 +76,7 @@ impl DeserializeSeed for EventSeed {
         Hint::Struct("Event", &self.fields)
     }
 
+    #[tactic(auto, using(crate::proofs::Steps::told_here))]
     fn visit<D: Deserializer>(
         self,
         alloc: Global,
@@ -67,21 +87,10 @@ impl DeserializeSeed for EventSeed {
             return Err(refused(alloc, shown, "struct Event"));
         };
         let mut map = map;
-        let mut kind = None;
-        let mut object = Value::Unit;
-        for _ in 0..u64::MAX {
-            let Some(key) = next_key::<D, String>(alloc, &mut map, track)? else {
-                break;
-            };
-            match key.as_str() {
-                "kind" => kind = Some(next_value::<D, String>(alloc, &mut map, track)?),
-                "object" => object = next_value::<D, Value>(alloc, &mut map, track)?,
-                _ => drop(next_value::<D, IgnoredAny>(alloc, &mut map, track)?),
-            }
-        }
+        let (kind, object) = entries::<D>(alloc, &mut map, track)?;
         match kind {
-            Some(kind) => self.event(alloc, kind.as_str(), object, track),
-            None => Err(D::Error::missing_field(alloc, "kind")),
+            Value::String(kind) => self.event(alloc, kind.as_str(), object),
+            _ => Err(D::Error::missing_field(alloc, "kind")),
         }
     }
 

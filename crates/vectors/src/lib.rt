@@ -14,6 +14,8 @@ mod options;
 #[cfg(test)]
 mod paths;
 #[cfg(test)]
+mod refusals;
+#[cfg(test)]
 mod sequences;
 #[cfg(test)]
 mod skipping;

@@ -1,5 +1,6 @@
 //! Maps that are read from trees.
 
+use crate::refusals::told;
 use capture::read_any;
 use data_core::{Deserializer, Fault, Kind};
 use data_std::{Error, MapDeserializer, MapEntries};
@@ -33,26 +34,37 @@ fn numbers(alloc: Global) -> Result<Shape, AllocError> {
 }
 
 #[test]
-fn one_path_by_each_call(rt: HostRuntime) -> Result<(), Fail> {
+fn a_path_by_a_type(rt: HostRuntime) -> Result<(), Fail> {
+    let alloc = rt.alloc();
+    let bad = to_ten(alloc, Value::Unit)?;
+    let read = deserialize::<Tree, BTreeMap<u8, u8>>(alloc, Tree::new(alloc, bad));
+    let (path, fault) = told(alloc, read.err())?;
+    assert_eq!(rt; path.as_str(), "2");
+    assert!(rt; matches!(fault, Some(Fault::InvalidType(Kind::Unit))));
+    Ok(())
+}
+
+#[test]
+fn the_same_path_by_a_seed(rt: HostRuntime) -> Result<(), Fail> {
     let alloc = rt.alloc();
     let shape = numbers(alloc)?;
     let bad = to_ten(alloc, Value::Unit)?;
-    let by_type = deserialize::<Tree, BTreeMap<u8, u8>>(alloc, Tree::new(alloc, bad));
+    let read = deserialize_seed(alloc, Tree::new(alloc, bad), ShapeSeed::new(&shape));
+    let (path, fault) = told(alloc, read.err())?;
+    assert_eq!(rt; path.as_str(), "2");
+    assert!(rt; matches!(fault, Some(Fault::InvalidType(Kind::Unit))));
+    Ok(())
+}
+
+#[test]
+fn the_same_path_by_a_shape(rt: HostRuntime) -> Result<(), Fail> {
+    let alloc = rt.alloc();
+    let shape = numbers(alloc)?;
     let bad = to_ten(alloc, Value::Unit)?;
-    let by_seed = deserialize_seed(alloc, Tree::new(alloc, bad), ShapeSeed::new(&shape));
-    let bad = to_ten(alloc, Value::Unit)?;
-    let by_shape = read_any(alloc, &shape, Tree::new(alloc, bad));
-    for refusal in [by_type.err(), by_seed.err(), by_shape.err()] {
-        let error = refusal.ok_or("not refused")?;
-        assert_eq!(rt; error.path().to_string(alloc)?.as_str(), "2");
-        match error.into_inner() {
-            Error::Fault { cause, text } => {
-                assert!(rt; matches!(cause, Fault::InvalidType(Kind::Unit)));
-                drop(text);
-            }
-            Error::Memory => panic!(rt; "no memory"),
-        }
-    }
+    let read = read_any(alloc, &shape, Tree::new(alloc, bad));
+    let (path, fault) = told(alloc, read.err())?;
+    assert_eq!(rt; path.as_str(), "2");
+    assert!(rt; matches!(fault, Some(Fault::InvalidType(Kind::Unit))));
     Ok(())
 }
 

@@ -5,7 +5,7 @@ use capture::{Input, read};
 use data_core::{
     DeError, DeserializeSeed, Deserializer, Fault, Hint, Kind, Names, Shown, Text, Track, refused,
 };
-use data_std::{Deserialize, Error, IgnoredAny, next_key, next_value};
+use data_std::{Deserialize, Error, next_entry};
 use serde_path_to_error::{deserialize, deserialize_seed};
 use serde_value::{Value, ValueDeserializer, ValueMap};
 use shape::{Data, Shape};
@@ -94,14 +94,12 @@ impl DeserializeSeed for StructSeed {
         };
         let mut map = map;
         let mut foo = None;
-        for _ in 0..u64::MAX {
-            let Some(key) = next_key::<D, String>(alloc, &mut map, track)? else {
+        'pairs: for _ in 0..u64::MAX {
+            let Some((name, value)) = next_entry::<D, String, Foo>(alloc, &mut map, track)? else {
                 break;
             };
-            if key.as_str() == "foo" {
-                foo = Some(next_value::<D, Foo>(alloc, &mut map, track)?);
-            } else {
-                next_value::<D, IgnoredAny>(alloc, &mut map, track)?;
+            if name.as_str() == "foo" {
+                foo = Some(value);
             }
         }
         foo.ok_or(D::Error::missing_field(alloc, "foo"))
@@ -159,7 +157,7 @@ fn a_struct_by_hand(rt: HostRuntime) -> Result<(), Fail> {
         Ok(_) => panic!(rt; "not refused"),
         Err(error) => assert_eq!(rt; error.path().to_string(alloc)?.as_str(), "foo"),
     }
-    let tree = of_foo(alloc, "bar", Value::Unit)?;
+    let tree = of_foo(alloc, "bar", Value::I32(5))?;
     match deserialize_seed(alloc, Tree::new(alloc, tree), seed(alloc)?) {
         Ok(_) => panic!(rt; "not refused"),
         Err(error) => {

@@ -1,5 +1,6 @@
 //! Sequences that are read from trees.
 
+use crate::refusals::told;
 use capture::{Input, ReadError, read, read_any};
 use data_core::{Deserializer, Fault, Kind, Segment};
 use data_std::{Error, SeqDeserializer, SeqElements};
@@ -57,28 +58,37 @@ fn a_refusal_within_two_hundred_sequences(rt: HostRuntime) -> Result<(), Fail> {
 }
 
 #[test]
-fn one_path_by_each_call(rt: HostRuntime) -> Result<(), Fail> {
+fn a_path_by_a_type(rt: HostRuntime) -> Result<(), Fail> {
+    let alloc = rt.alloc();
+    let d = Tree::new(alloc, mixed(alloc)?);
+    let read = deserialize::<Tree, Vec<u8>>(alloc, d);
+    let (path, fault) = told(alloc, read.err())?;
+    assert_eq!(rt; path.as_str(), "[1]");
+    assert!(rt; matches!(fault, Some(Fault::InvalidType(Kind::Bool))));
+    Ok(())
+}
+
+#[test]
+fn the_same_path_by_a_seed(rt: HostRuntime) -> Result<(), Fail> {
     let alloc = rt.alloc();
     let shape = seq_shapes(alloc, Shape::U8, 1)?;
-    let by_type = deserialize::<Tree, Vec<u8>>(alloc, Tree::new(alloc, mixed(alloc)?));
-    let by_seed = deserialize_seed(
-        alloc,
-        Tree::new(alloc, mixed(alloc)?),
-        ShapeSeed::new(&shape),
-    );
-    let by_shape = read_any(alloc, &shape, Tree::new(alloc, mixed(alloc)?));
-    let refused = [by_type.err(), by_seed.err(), by_shape.err()];
-    for refusal in refused {
-        let error = refusal.ok_or("not refused")?;
-        assert_eq!(rt; error.path().to_string(alloc)?.as_str(), "[1]");
-        match error.into_inner() {
-            Error::Fault { cause, text } => {
-                assert!(rt; matches!(cause, Fault::InvalidType(Kind::Bool)));
-                drop(text);
-            }
-            Error::Memory => panic!(rt; "no memory"),
-        }
-    }
+    let d = Tree::new(alloc, mixed(alloc)?);
+    let read = deserialize_seed(alloc, d, ShapeSeed::new(&shape));
+    let (path, fault) = told(alloc, read.err())?;
+    assert_eq!(rt; path.as_str(), "[1]");
+    assert!(rt; matches!(fault, Some(Fault::InvalidType(Kind::Bool))));
+    Ok(())
+}
+
+#[test]
+fn the_same_path_by_a_shape(rt: HostRuntime) -> Result<(), Fail> {
+    let alloc = rt.alloc();
+    let shape = seq_shapes(alloc, Shape::U8, 1)?;
+    let d = Tree::new(alloc, mixed(alloc)?);
+    let read = read_any(alloc, &shape, d);
+    let (path, fault) = told(alloc, read.err())?;
+    assert_eq!(rt; path.as_str(), "[1]");
+    assert!(rt; matches!(fault, Some(Fault::InvalidType(Kind::Bool))));
     Ok(())
 }
 

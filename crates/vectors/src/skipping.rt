@@ -1,8 +1,9 @@
 //! A reader by hand that passes over the keys of a map and over its first value.
 ghost use Rattle.data_core.specs.Ask as asks;
+ghost use Rattle.data_core.specs.Outcome.{Among};
 
 use data_core::{DeError, DeserializeSeed, Deserializer, Fault, Hint, Kind, Shown, Track, refused};
-use data_std::{Deserialize, Error, IgnoredAny, next_key, next_value};
+use data_std::{Deserialize, Error, IgnoredAny, next_entry, next_key};
 use serde_path_to_error::deserialize;
 use serde_value::{Value, ValueDeserializer, ValueMap};
 use std::alloc::{AllocError, Global};
@@ -11,6 +12,20 @@ use std::test::Fail;
 // The value of a map's second entry, a number. It is its own reader.
 #[derive(Drop)]
 struct Second(u8);
+
+// The value of the entry that is next. A value that waits is passed over.
+fn next_number<D: Deserializer>(
+    alloc: Global,
+    map: &mut D::Map,
+    track: &mut Track,
+) -> Result<Second, D::Error>
+    ensures { Among D.Error.fault D.tracks result (λ _. Unit {0}) track.old track.new }
+{
+    match next_entry::<D, IgnoredAny, u8>(alloc, map, track)? {
+        Some((_, number)) => Ok(Second(number)),
+        None => Err(D::Error::invalid_length(alloc, 1, "two entries")),
+    }
+}
 
 impl DeserializeSeed for Second {
     type Value = Second;
@@ -24,6 +39,7 @@ impl DeserializeSeed for Second {
         Hint::Map
     }
 
+    #[tactic(auto, using(crate::proofs::Steps::told_later))]
     fn visit<D: Deserializer>(
         self,
         alloc: Global,
@@ -34,12 +50,9 @@ impl DeserializeSeed for Second {
             return Err(refused(alloc, shown, "map"));
         };
         let mut map = map;
-        if next_key::<D, IgnoredAny>(alloc, &mut map, track)?.is_none() {
-            return Err(D::Error::invalid_length(alloc, 0, "two entries"));
-        }
         match next_key::<D, IgnoredAny>(alloc, &mut map, track)? {
-            Some(IgnoredAny) => Ok(Second(next_value::<D, u8>(alloc, &mut map, track)?)),
-            None => Err(D::Error::invalid_length(alloc, 1, "two entries")),
+            Some(IgnoredAny) => next_number::<D>(alloc, &mut map, track),
+            None => Err(D::Error::invalid_length(alloc, 0, "two entries")),
         }
     }
 
