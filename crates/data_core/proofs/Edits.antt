@@ -1,6 +1,6 @@
 -- A map with a value written over, and with a pair more: pairs of the code, whose keys and values are
 -- seen through views.
-use Rattle.std.proofs.Common.{◌≡◌, ℕ, suc, ◌+◌, ◌<◌, List, [], ◌∷◌, length, get_or, take, drop, set, map, Ordering, Less, Equal, Greater, Some, None, refl, sym, ap, ◌∙◌}
+use Rattle.std.proofs.Common.{◌≡◌, ℕ, suc, ◌+◌, ◌<◌, List, [], ◌∷◌, length, get_or, take, drop, set, map, Ordering, Some, None, refl, sym, ap, ◌∙◌}
 use Rattle.std.specs.List.{insert}
 use Rattle.std.specs.Ordering.{match_ordering, on}
 use Rattle.std.specs.Cmp.{IsTotalOrder}

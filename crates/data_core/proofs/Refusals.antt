@@ -3,8 +3,8 @@ use Rattle.std.proofs.Common.{◌≡◌, ◌≢◌, ◌↔◌, Bool, true, false
 use Rattle.data_core.specs.declared.fault.Fault.{Fault}
 use Rattle.data_core.specs.declared.path.Segment.{Segment}
 use Rattle.data_core.specs.Fault.{IsCalled}
-use Rattle.data_core.specs.Tracking.{Refusal, clear, held, marked, HoldsPath, left, left_key, left_with, dropped}
-use Rattle.data_core.specs.Outcome.{Outcome, given, refused, under, and_then, IsRefused, Gives}
+use Rattle.data_core.specs.Tracking.{Refusal, clear, held, marked, HoldsPath, left, left_key, left_name, left_with, noted, dropped}
+use Rattle.data_core.specs.Outcome.{Outcome, given, refused, under, bare, and_then, IsRefused, Gives}
 
 -- the second outcome is refused wherever the first is
 abbrev pub Carries : {A B : Type 0} → Outcome A → Outcome B → Type 0
@@ -72,3 +72,35 @@ Gives-left fault tracks before segment view (Ok b) o old mid new w h e =
     rw (h.0, e) (refl, λ c. left-clear tracks before segment mid (h.1 c))
 Gives-left fault tracks before segment view (Err x) o old mid new w h e =
     IsRefused-left tracks before segment (fault x) o old mid new w h e
+
+HoldsPath-noted : (mid : Refusal) (path : List Segment) → HoldsPath mid path → HoldsPath (noted (Some []) (dropped mid)) []
+HoldsPath-noted clear path h = refl
+HoldsPath-noted (held p) path h = refl
+HoldsPath-noted marked path h = h
+
+HoldsPath-left_name : (tracks before : Bool) (old mid : Refusal) (path : List Segment)
+    → (IsTrue before ↔ (old ≢ clear)) → (tracks ≡ true → old ≡ clear → HoldsPath mid path)
+    → tracks ≡ true → old ≡ clear → HoldsPath (left_name tracks before true mid) []
+HoldsPath-left_name false before old mid path w h t c = absurd (cc)
+HoldsPath-left_name true true old mid path w h t c = absurd (w.0 refl c)
+HoldsPath-left_name true false old mid path w h t c = HoldsPath-noted mid path (h t c)
+
+IsRefused-left_name : {A : Type 0} (tracks before : Bool) (fault : Option Fault) (o : Outcome A) (old mid new : Refusal)
+    → (IsTrue before ↔ (old ≢ clear)) → IsRefused tracks fault o old mid → new ≡ left_name tracks before true mid → IsRefused tracks fault (bare o) old new
+IsRefused-left_name tracks before None o old mid new w h e = tt
+IsRefused-left_name tracks before (Some f) (given a) old mid new w h e = absurd h
+IsRefused-left_name tracks before (Some f) (refused g path) old mid new w h e =
+    rw e (h.0, HoldsPath-left_name tracks before old mid path w h.1)
+
+left_name-clear : (tracks before : Bool) (mid : Refusal) → mid ≡ clear → left_name tracks before false mid ≡ clear
+left_name-clear false before mid e = e
+left_name-clear true true mid e = e
+left_name-clear true false mid e = rw e refl
+
+-- what the read of a variant's name answered, once its path is dropped
+pub Gives-left_name : {A B E : Type 0} (fault : E → Option Fault) (tracks before : Bool) (view : B → A) (r : Result B E) (o : Outcome A) (old mid new : Refusal)
+    → (IsTrue before ↔ (old ≢ clear)) → Gives fault tracks view r o old mid → new ≡ left_name tracks before (is_err r) mid → Gives fault tracks view r (bare o) old new
+Gives-left_name fault tracks before view (Ok b) o old mid new w h e =
+    rw (h.0, e) (refl, λ c. left_name-clear tracks before mid (h.1 c))
+Gives-left_name fault tracks before view (Err x) o old mid new w h e =
+    IsRefused-left_name tracks before (fault x) o old mid new w h e

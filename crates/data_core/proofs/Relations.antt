@@ -1,15 +1,17 @@
 -- Outcomes of readers that are told by relations.
-use Rattle.std.proofs.Common.{◌≡◌, ◌≢◌, ◌↔◌, ℕ, Bool, true, false, IsTrue, List, [], ◌∷◌, Option, Some, None, Result, Ok, Err, is_err, refl, ap, sym}
+use Rattle.std.proofs.Common.{◌≡◌, ◌≢◌, ◌↔◌, ℕ, Bool, true, IsTrue, List, [], ◌∷◌, Option, Some, None, Result, Ok, Err, is_err, refl}
 use Rattle.data_core.specs.declared.fault.Fault.{Fault}
 use Rattle.data_core.specs.declared.path.Segment.{Segment}
 use Rattle.data_core.specs.declared.path.Segment.TheVariants.{Seq}
 use Rattle.data_core.specs.Fault.{IsCalled}
 use Rattle.data_core.specs.Ask.{Ask}
-use Rattle.data_core.specs.Source.{Source, Sources, more, Entries, entry, offer_of}
+use Rattle.data_core.specs.Source.{Source, Sources, more, Entries, entry, Offer, scalar, unit, offer_of}
 use Rattle.data_core.specs.Sequence.{IsNext}
-use Rattle.data_core.specs.Table.{IsKey, IsValue, CatchesUnless, entry_segment, segment_of_key, text_of}
-use Rattle.data_core.specs.Tracking.{Refusal, clear, held, marked, HoldsPath, path_of, left, left_key, left_with, dropped}
-use Rattle.data_core.specs.Outcome.{Outcome, refused, RefusedAmong, Among}
+use Rattle.data_core.specs.Table.{IsKey, CatchesUnless, entry_segment, segment_of_key, text_of}
+use Rattle.data_core.specs.Choice.{IsNothing}
+use Rattle.data_core.specs.Show.{Refuses, Hands}
+use Rattle.data_core.specs.Tracking.{Refusal, clear, held, marked, HoldsPath, path_of, left, left_key}
+use Rattle.data_core.specs.Outcome.{Outcome, refused, RefusedAmong, Among, IsUnder}
 use Rattle.data_core.proofs.Refusals.{HoldsPath-left, HoldsPath-left_key, left-clear}
 
 -- an element's refusal, once its segment is put before the path
@@ -28,21 +30,21 @@ RefusedAmong-key tracks before asks reads caught k v es (Some f) old mid new w s
     rw e
     (segment_of_key asks k ∷ [], (h.0, h.1, refl), λ t c. rw (← same t) (HoldsPath-left_key tracks before (entry_segment caught) old mid h.0 w h.2 t c))
 
--- a value's answer, once its entry's segment is put before the path
-RefusedAmong-value : {A : Type 0} (tracks before : Bool) (reads : Source → Outcome A → Type 0) (own segment : Segment) (s : Source) (fault : Option Fault) (old mid new : Refusal)
-    → (IsTrue before ↔ (old ≢ clear)) → (tracks ≡ true → segment ≡ own) → RefusedAmong tracks fault (reads s) old mid → new ≡ left tracks own before true mid
-    → RefusedAmong tracks fault (IsValue segment reads (Some s)) old new
-RefusedAmong-value tracks before reads own segment s None old mid new w same h e = tt
-RefusedAmong-value tracks before reads own segment s (Some f) old mid new w same h e =
+-- a part's answer, once its segment is put before the path
+RefusedAmong-under : {A : Type 0} (tracks before : Bool) (is_outcome : Outcome A → Type 0) (own segment : Segment) (fault : Option Fault) (old mid new : Refusal)
+    → (IsTrue before ↔ (old ≢ clear)) → (tracks ≡ true → segment ≡ own) → RefusedAmong tracks fault is_outcome old mid → new ≡ left tracks own before true mid
+    → RefusedAmong tracks fault (IsUnder segment is_outcome) old new
+RefusedAmong-under tracks before is_outcome own segment None old mid new w same h e = tt
+RefusedAmong-under tracks before is_outcome own segment (Some f) old mid new w same h e =
     rw e (segment ∷ h.0, (h.0, h.1, refl), λ t c. rw (same t) (HoldsPath-left tracks before own old mid h.0 w h.2 t c))
 
-pub Among-value : {A E : Type 0} (fault : E → Option Fault) (tracks before : Bool) (reads : Source → Outcome A → Type 0) (own segment : Segment) (waiting : Option Source) (s : Source) (r : Result A E) (old mid new : Refusal)
-    → waiting ≡ Some s → (IsTrue before ↔ (old ≢ clear)) → (tracks ≡ true → segment ≡ own) → Among fault tracks r (reads s) old mid → new ≡ left tracks own before (is_err r) mid
-    → Among fault tracks r (IsValue segment reads waiting) old new
-Among-value fault tracks before reads own segment waiting s (Ok a) old mid new wait w same h e =
-    rw (wait, e) (h.0, λ c. left-clear tracks before own mid (h.1 c))
-Among-value fault tracks before reads own segment waiting s (Err x) old mid new wait w same h e =
-    rw wait (RefusedAmong-value tracks before reads own segment s (fault x) old mid new w same h e)
+pub Among-under : {A E : Type 0} (fault : E → Option Fault) (tracks before : Bool) (is_outcome : Outcome A → Type 0) (own segment : Segment) (r : Result A E) (old mid new : Refusal)
+    → (IsTrue before ↔ (old ≢ clear)) → (tracks ≡ true → segment ≡ own) → Among fault tracks r is_outcome old mid → new ≡ left tracks own before (is_err r) mid
+    → Among fault tracks r (IsUnder segment is_outcome) old new
+Among-under fault tracks before is_outcome own segment (Ok a) old mid new w same h e =
+    rw e (h.0, λ c. left-clear tracks before own mid (h.1 c))
+Among-under fault tracks before is_outcome own segment (Err x) old mid new w same h e =
+    RefusedAmong-under tracks before is_outcome own segment (fault x) old mid new w same h e
 
 HoldsPath-path_of : (r : Refusal) → r ≢ marked → HoldsPath r (path_of r)
 HoldsPath-path_of clear h = refl
@@ -54,3 +56,13 @@ pub refused_after : {A : Type 0} (tracks : Bool) (fault : Option Fault) (f : Fau
     → IsCalled fault f → ((path : List Segment) → P (refused f path)) → new ≢ marked → RefusedAmong tracks fault P old new
 refused_after tracks None f P old new called all lost = tt
 refused_after tracks (Some g) f P old new called all lost = rw called (path_of new, all (path_of new), λ t c. HoldsPath-path_of new lost)
+
+refused_payload : (tracks : Bool) (fault : Option Fault) (offered : Offer) (old : Refusal) → Refuses fault offered → RefusedAmong tracks fault (IsNothing offered) old old
+refused_payload tracks None offered old h = tt
+refused_payload tracks (Some f) offered old h = rw h ([], refl, λ t c. rw c refl)
+
+-- the end of a variant that has no payload
+pub Among-nothing : {E : Type 0} (fault : E → Option Fault) (tracks : Bool) (r : Result (Unit {0}) E) (offered : Offer) (old : Refusal)
+    → Hands (λ u. scalar unit) fault r offered → Among fault tracks r (IsNothing offered) old old
+Among-nothing fault tracks (Ok u) offered old h = rw h (refl, λ c. c)
+Among-nothing fault tracks (Err e) offered old h = refused_payload tracks (fault e) offered old h

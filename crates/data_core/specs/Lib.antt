@@ -2,9 +2,11 @@ pub mod Only
 pub mod Fault
 pub mod Unexpected
 pub mod Ask
+pub mod Wanted
 pub mod Source
 pub mod Sequence
 pub mod Table
+pub mod Choice
 pub mod Node
 pub mod Depth
 pub mod NodeCode

@@ -16,6 +16,11 @@ abbrev pub under : {A : Type 0} → Segment → Outcome A → Outcome A
 under segment (given a) = given a
 under segment (refused f path) = refused f (segment ∷ path)
 
+-- the same outcome with no path
+abbrev pub bare : {A : Type 0} → Outcome A → Outcome A
+bare (given a) = given a
+bare (refused f path) = refused f []
+
 -- an outcome that the next step goes on from
 abbrev pub and_then : {A B : Type 0} → Outcome A → (A → Outcome B) → Outcome B
 and_then (given a) next = next a
@@ -55,6 +60,12 @@ RefusedAmong tracks (Some f) is_outcome old new =
 abbrev pub Among : {A E : Type 0} → (E → Option Fault) → Bool → Result A E → (Outcome A → Type 0) → Refusal → Refusal → Type 0
 Among fault tracks (Ok a) is_outcome old new = is_outcome (given a) × (old ≡ clear → new ≡ clear)
 Among fault tracks (Err e) is_outcome old new = RefusedAmong tracks (fault e) is_outcome old new
+
+-- the outcomes of a part, one level further out
+abbrev pub IsUnder : {A : Type 0} → Segment → (Outcome A → Type 0) → Outcome A → Type 0
+IsUnder segment is_outcome (given a) = is_outcome (given a)
+IsUnder segment is_outcome (refused f path) =
+    (inner : List Segment) × is_outcome (refused f inner) × (path ≡ segment ∷ inner)
 
 -- an offer that is a refusal is read as that refusal, here
 abbrev pub PassesRefusals : {S A : Type 0} → (S → Offer → Outcome A → Type 0) → Type 0

@@ -3,7 +3,7 @@ use Rattle.data_core.specs.declared.fault.Fault.{Fault}
 use Rattle.data_core.specs.declared.fault.Fault.TheVariants.{InvalidType}
 use Rattle.data_core.specs.declared.fault.Kind.{Kind}
 use Rattle.data_core.specs.declared.fault.Kind.TheVariants as kind
-use Rattle.data_core.specs.Source.{Scalar, boolean, unsigned, signed, wide, character, text, bytes, none, unit, Offer, scalar, some_itself, some, elements, newtype_itself, newtype_struct, entries, refused}
+use Rattle.data_core.specs.Source.{Scalar, boolean, unsigned, signed, wide, character, text, bytes, none, unit, Offer, scalar, some_itself, some, elements, newtype_itself, newtype_struct, entries, variant_itself, variant, refused}
 
 -- what a reader sees of a scalar: of a character, its text
 abbrev pub kind_visited : Scalar → Kind
@@ -26,4 +26,6 @@ fault_of (elements checks ss) = InvalidType kind.Seq
 fault_of newtype_itself = InvalidType kind.NewtypeStruct
 fault_of (newtype_struct s) = InvalidType kind.NewtypeStruct
 fault_of (entries checks es) = InvalidType kind.Map
+fault_of (variant_itself payload) = InvalidType kind.Enum
+fault_of (variant name payload) = InvalidType kind.Enum
 fault_of (refused f) = f

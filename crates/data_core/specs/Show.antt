@@ -5,6 +5,7 @@ use Rattle.data_core.specs.Source.{Source, Offer}
 use Rattle.data_core.specs.Source as spec
 use Rattle.data_core.specs.Sequence.{Sequence}
 use Rattle.data_core.specs.Table.{Table}
+use Rattle.data_core.specs.Choice.{Choice}
 use Rattle.data_core.specs.declared.de.Scalar as code
 use Rattle.data_core.specs.declared.de.Scalar.TheVariants as scalars
 use Rattle.data_core.specs.declared.de.Shown.{Shown}
@@ -34,24 +35,38 @@ abbrev pub Refuses : Option Fault → Offer → Type 0
 Refuses None offer = Unit {0}
 Refuses (Some f) offer = offer ≡ spec.refused f
 
-module _ {D E T B S M : Type 0} where
+-- a call hands out what was offered, as this view sees it
+abbrev pub Hands : {A E : Type 0} → (A → Offer) → (E → Option Fault) → Result A E → Offer → Type 0
+Hands view fault (Ok a) offer = offer ≡ view a
+Hands view fault (Err e) offer = Refuses (fault e) offer
+
+-- the elements and the entries that are left are offered
+abbrev pub elements_of : Sequence → Offer
+elements_of s = spec.elements s.checks s.left
+
+abbrev pub entries_of : Table → Offer
+entries_of t = spec.entries t.checks t.left
+
+module _ {D E T B S M V : Type 0} where
   -- the offer that was shown
-  abbrev pub shown_offer : (T → List ℕ) → (B → List ℕ) → (D → Source) → (S → Sequence) → (M → Table) → Shown D E T B S M → Offer
-  shown_offer text bytes source sequence table (shown.Scalar s) = spec.scalar (scalar_view text bytes s)
-  shown_offer text bytes source sequence table (shown.Some d) = spec.some (source d)
-  shown_offer text bytes source sequence table (shown.NewtypeStruct d) = spec.newtype_struct (source d)
-  shown_offer text bytes source sequence table (shown.Seq s) = spec.elements (sequence s).checks (sequence s).left
-  shown_offer text bytes source sequence table (shown.Map m) = spec.entries (table m).checks (table m).left
+  abbrev pub shown_offer : (T → List ℕ) → (B → List ℕ) → (D → Source) → (S → Sequence) → (M → Table) → (V → Choice) → Shown D E T B S M V → Offer
+  shown_offer text bytes source sequence table choice (shown.Scalar s) = spec.scalar (scalar_view text bytes s)
+  shown_offer text bytes source sequence table choice (shown.Some d) = spec.some (source d)
+  shown_offer text bytes source sequence table choice (shown.NewtypeStruct d) = spec.newtype_struct (source d)
+  shown_offer text bytes source sequence table choice (shown.Seq s) = elements_of (sequence s)
+  shown_offer text bytes source sequence table choice (shown.Map m) = entries_of (table m)
+  shown_offer text bytes source sequence table choice (shown.Enum name v) = spec.variant (source name) (choice v).payload
 
   -- what a call shows is this offer
-  abbrev pub Shows : (T → List ℕ) → (B → List ℕ) → (D → Source) → (S → Sequence) → (M → Table) → (E → Option Fault) → Result (Shown D E T B S M) E → Offer → Type 0
-  Shows text bytes source sequence table fault (Ok s) offer = shown_offer text bytes source sequence table s ≡ offer
-  Shows text bytes source sequence table fault (Err e) offer = Refuses (fault e) offer
+  abbrev pub Shows : (T → List ℕ) → (B → List ℕ) → (D → Source) → (S → Sequence) → (M → Table) → (V → Choice) → (E → Option Fault) → Result (Shown D E T B S M V) E → Offer → Type 0
+  Shows text bytes source sequence table choice fault (Ok s) offer = shown_offer text bytes source sequence table choice s ≡ offer
+  Shows text bytes source sequence table choice fault (Err e) offer = Refuses (fault e) offer
 
   -- of a sequence or a map that is shown nothing was taken yet
-  abbrev pub Begins : (S → Sequence) → (M → Table) → Shown D E T B S M → Type 0
+  abbrev pub Begins : (S → Sequence) → (M → Table) → Shown D E T B S M V → Type 0
   Begins sequence table (shown.Scalar s) = Unit {0}
   Begins sequence table (shown.Some d) = Unit {0}
   Begins sequence table (shown.NewtypeStruct d) = Unit {0}
   Begins sequence table (shown.Seq s) = (sequence s).taken ≡ 0
   Begins sequence table (shown.Map m) = (table m).taken ≡ 0
+  Begins sequence table (shown.Enum name v) = Unit {0}

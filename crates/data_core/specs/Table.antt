@@ -7,7 +7,7 @@ use Rattle.data_core.specs.declared.fault.Fault.TheVariants.{InvalidLength}
 use Rattle.data_core.specs.declared.path.Segment.{Segment}
 use Rattle.data_core.specs.declared.path.Segment.TheVariants.{Map, Unknown}
 use Rattle.data_core.specs.Ask.{Ask}
-use Rattle.data_core.specs.Outcome.{Outcome, given, refused}
+use Rattle.data_core.specs.Outcome.{Outcome, given, refused, IsUnder}
 use Rattle.data_core.specs.Source.{Source, Scalar, boolean, unsigned, signed, wide, text, Offer, scalar, offer_of, Entries, no_entries, entry, count_entries}
 
 pub record Table : Type 0 where
@@ -105,6 +105,4 @@ IsCaught asks (entry k v es) caught = caught ≡ text_of (offer_of k asks)
 -- the outcomes of the value that waits, under its entry's segment
 abbrev pub IsValue : {A : Type 0} → Segment → (Source → Outcome A → Type 0) → Option Source → Outcome A → Type 0
 IsValue segment reads None outcome = ⊥
-IsValue segment reads (Some s) (given a) = reads s (given a)
-IsValue segment reads (Some s) (refused f path) =
-    (inner : List Segment) × reads s (refused f inner) × (path ≡ segment ∷ inner)
+IsValue segment reads (Some s) outcome = IsUnder segment (reads s) outcome

@@ -57,6 +57,13 @@ left_key false segment before failed now = now
 left_key true segment true failed now = now
 left_key true segment false failed now = left_with segment failed (dropped now)
 
+-- after the read of a variant's name: its refusal is that of the enum itself, whatever stood inside the name
+abbrev pub left_name : Bool → Bool → Bool → Refusal → Refusal
+left_name false before failed now = now
+left_name true true failed now = now
+left_name true false true now = noted (Some []) (dropped now)
+left_name true false false now = dropped now
+
 -- what the way out of a nested read answers, by the track before and after
 abbrev pub Leaves : {E : Type 0} → (E → Option Fault) → Bool → Segment → Bool → Bool → Refusal → Refusal → Result (Unit {0}) E → Type 0
 Leaves fault tracks segment before failed old new (Ok u) = new ≡ left tracks segment before failed old
@@ -66,3 +73,8 @@ Leaves fault tracks segment before failed old new (Err e) = fault e ≡ None
 abbrev pub LeavesKey : {E : Type 0} → (E → Option Fault) → Bool → Segment → Bool → Bool → Refusal → Refusal → Result (Unit {0}) E → Type 0
 LeavesKey fault tracks segment before failed old new (Ok u) = new ≡ left_key tracks segment before failed old
 LeavesKey fault tracks segment before failed old new (Err e) = fault e ≡ None
+
+-- the same of the read of a variant's name
+abbrev pub LeavesName : {E : Type 0} → (E → Option Fault) → Bool → Bool → Bool → Refusal → Refusal → Result (Unit {0}) E → Type 0
+LeavesName fault tracks before failed old new (Ok u) = new ≡ left_name tracks before failed old
+LeavesName fault tracks before failed old new (Err e) = fault e ≡ None

@@ -1,15 +1,19 @@
 //! Deserializers.
 ghost use Rattle.std.specs.Prelude.{◌≡◌, ◌≢◌, ◌-◌, true, false, IsTrue, OnOk, IfOk, IfSome, IsSome, Bool};
 ghost use Rattle.data_core.specs.Ask.{ask};
-ghost use Rattle.data_core.specs.Source.{Source, count, count_entries, offer_of};
+ghost use Rattle.data_core.specs.Source.{Source, count, count_entries, offer_of, scalar, newtype_struct};
+ghost use Rattle.data_core.specs.Source as offer;
+ghost use Rattle.data_core.specs.Wanted as wanted;
 ghost use Rattle.data_core.specs.Sequence.{Sequence, Takes, Ends, surplus};
 ghost use Rattle.data_core.specs.Table.{Table, TakesKey, TakesValue, Catches, text_of, with_caught, value_taken, entry_segment, surplus_entries};
-ghost use Rattle.data_core.specs.Show.{Shows, Begins};
-ghost use Rattle.data_core.specs.Tracking.{Leaves, LeavesKey, marked};
+ghost use Rattle.data_core.specs.Choice.{Choice, name_caught, variant_segment};
+ghost use Rattle.data_core.specs.Show.{Shows, Begins, Hands, elements_of, entries_of};
+ghost use Rattle.data_core.specs.Tracking.{Leaves, LeavesKey, LeavesName, marked};
 ghost use Rattle.data_core.specs.declared.path.Segment.TheVariants as segment;
 
 use crate::error::DeError;
 use crate::hint::Hint;
+use crate::names::Names;
 use crate::text::{BytesLike, TextLike};
 use crate::track::Track;
 use std::alloc::Global;
@@ -37,7 +41,7 @@ pub enum Scalar<T: Drop, B: Drop> {
 
 /// A place in some data, from which a reader pulls: serde's `Deserializer`, whose visits are the
 /// variants of `Shown`. Its parts are deserializers of the same type, and its calls on what is under
-/// way stand for serde's `SeqAccess` and `MapAccess`.
+/// way stand for serde's `SeqAccess`, `MapAccess`, `EnumAccess` and `VariantAccess`.
 pub trait Deserializer: Drop {
     type Error: DeError;
 
@@ -51,6 +55,9 @@ pub trait Deserializer: Drop {
     /// The entries of a map, under way.
     type Map: Drop;
 
+    /// A variant of an enum, whose payload was not taken yet.
+    type Variant: Drop;
+
     // Whether it notes the path of a refusal.
     ghost tracks: { Bool };
 
@@ -60,9 +67,11 @@ pub trait Deserializer: Drop {
 
     ghost table: { Self.Map → Table };
 
+    ghost choice: { Self.Variant → Choice };
+
     /// What is there, for a reader that hopes for `hint`.
     fn show(self, hint: Hint<'_>) -> Result<Shown<Self>, Self::Error>
-        ensures shows { Shows Self.Text.text Self.Bytes.bytes source sequence table Self.Error.fault result
+        ensures shows { Shows Self.Text.text Self.Bytes.bytes source sequence table choice Self.Error.fault result
             (offer_of (source self) (ask hint.entry)) }
         ensures begins { IfOk result (Begins sequence table) };
 
@@ -105,7 +114,7 @@ pub trait Deserializer: Drop {
     /// What the key that was taken last shows, for a reader that hopes for `hint`. A deserializer
     /// that tracks keeps the text of it, and forgets that of an earlier key first.
     fn show_key(map: &mut Self::Map, key: Self, hint: Hint<'_>) -> Result<Shown<Self>, Self::Error>
-        ensures shows { Shows Self.Text.text Self.Bytes.bytes source sequence table Self.Error.fault result
+        ensures shows { Shows Self.Text.text Self.Bytes.bytes source sequence table choice Self.Error.fault result
             (offer_of (source key) (ask hint.entry)) }
         ensures begins { IfOk result (Begins sequence table) }
         ensures caught { tracks ≡ true → Catches Self.Error.fault result (table map.new).caught
@@ -153,6 +162,76 @@ pub trait Deserializer: Drop {
     fn end_map(alloc: Global, map: Self::Map) -> Result<(), Self::Error>
         ensures { Ends Self.Error.fault result
             (surplus_entries (table map).checks (table map).taken (table map).left) };
+
+    /// What the name of a variant shows, for a reader that hopes for `hint`. A deserializer that
+    /// tracks keeps the text of it.
+    fn show_name(
+        variant: &mut Self::Variant,
+        name: Self,
+        hint: Hint<'_>,
+    ) -> Result<Shown<Self>, Self::Error>
+        ensures shows { Shows Self.Text.text Self.Bytes.bytes source sequence table choice Self.Error.fault result
+            (offer_of (source name) (ask hint.entry)) }
+        ensures begins { IfOk result (Begins sequence table) }
+        ensures caught { tracks ≡ true → Catches Self.Error.fault result (choice variant.new).caught
+            (text_of (offer_of (source name) (ask hint.entry))) }
+        ensures choice { choice variant.new ≡ name_caught (choice variant.new).caught (choice variant.old) };
+
+    /// The way out of the read of a variant's name, with `held` and `failed` as in `leave_element`.
+    /// The refusal of a name is that of the enum itself.
+    fn leave_name(
+        variant: &mut Self::Variant,
+        held: bool,
+        failed: bool,
+        track: &mut Track,
+    ) -> Result<(), Self::Error>
+        ensures path { LeavesName Self.Error.fault tracks held failed track.old track.new result }
+        ensures lost { tracks ≡ true → OnOk result (IsTrue failed → track.new ≢ marked) }
+        ensures choice { OnOk result (choice variant.new ≡ choice variant.old) };
+
+    /// The end of a variant that is to have no payload.
+    fn unit_variant(alloc: Global, variant: &mut Self::Variant) -> Result<(), Self::Error>
+        ensures hands { Hands (λ _. scalar offer.unit) Self.Error.fault result ((choice variant.old).payload wanted.unit) }
+        ensures caught { (choice variant.new).caught ≡ (choice variant.old).caught };
+
+    /// The inside of a newtype variant.
+    fn newtype_variant(alloc: Global, variant: &mut Self::Variant) -> Result<Self, Self::Error>
+        ensures hands { Hands (λ d. newtype_struct (source d)) Self.Error.fault result ((choice variant.old).payload wanted.newtype) }
+        ensures caught { (choice variant.new).caught ≡ (choice variant.old).caught };
+
+    /// The elements of a tuple variant that is to have `len` of them.
+    fn tuple_variant(
+        alloc: Global,
+        variant: &mut Self::Variant,
+        len: usize,
+    ) -> Result<Self::Seq, Self::Error>
+        ensures hands { Hands (λ seq. elements_of (sequence seq)) Self.Error.fault result
+            ((choice variant.old).payload (wanted.tuple len)) }
+        ensures begins { IfOk result (λ seq. (sequence seq).taken ≡ 0) }
+        ensures caught { (choice variant.new).caught ≡ (choice variant.old).caught };
+
+    /// The entries of a struct variant that is to have these fields.
+    fn struct_variant(
+        alloc: Global,
+        variant: &mut Self::Variant,
+        fields: &Names,
+    ) -> Result<Self::Map, Self::Error>
+        ensures hands { Hands (λ map. entries_of (table map)) Self.Error.fault result
+            ((choice variant.old).payload (wanted.struct fields.now)) }
+        ensures begins { IfOk result (λ map. (table map).taken ≡ 0) }
+        ensures caught { (choice variant.new).caught ≡ (choice variant.old).caught };
+
+    /// The way out of the read of a variant's payload, with `held` and `failed` as in
+    /// `leave_element`. The text of the variant's name goes into the path of a refusal.
+    fn leave_payload(
+        variant: &mut Self::Variant,
+        held: bool,
+        failed: bool,
+        track: &mut Track,
+    ) -> Result<(), Self::Error>
+        ensures path { Leaves Self.Error.fault tracks (variant_segment (choice variant.old).caught) held failed
+            track.old track.new result }
+        ensures lost { tracks ≡ true → OnOk result (IsTrue failed → track.new ≢ marked) };
 }
 
 /// What a deserializer shows: the visits of serde's `Visitor`, as one value.
@@ -167,4 +246,6 @@ pub enum Shown<D: Deserializer> {
     Seq(D::Seq),
     /// The entries of a map, of which none was taken yet.
     Map(D::Map),
+    /// The name of a variant of an enum, and the variant.
+    Enum(D, D::Variant),
 }

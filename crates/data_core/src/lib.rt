@@ -20,6 +20,7 @@ mod steps;
 mod text;
 mod track;
 mod unexpected;
+mod variants;
 
 pub use de::{Deserializer, Scalar, Shown};
 pub use error::DeError;
@@ -38,3 +39,6 @@ pub use steps::Steps;
 pub use text::{BytesLike, Text, TextLike, only_char};
 pub use track::Track;
 pub use unexpected::Unexpected;
+pub use variants::{
+    newtype_variant_seed, struct_variant, tuple_variant, unit_variant, variant_seed,
+};

@@ -33,7 +33,7 @@ pub trait DeserializeSeed: Drop + Sized {
     ) -> Result<Self::Value, D::Error>
         requires { Begins D.sequence D.table shown }
         ensures { Among D.Error.fault D.tracks result
-            (reads self (shown_offer D.Text.text D.Bytes.bytes D.source D.sequence D.table shown)) track.old track.new };
+            (reads self (shown_offer D.Text.text D.Bytes.bytes D.source D.sequence D.table D.choice shown)) track.old track.new };
 
     ghost passes_refusals: { PassesRefusals reads };
 

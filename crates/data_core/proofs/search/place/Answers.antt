@@ -1,5 +1,4 @@
-use Rattle.std.proofs.Common.{◌≡◌, ◌+◌, ◌-◌, ◌≤◌, ◌/◌, Ordering, Equal, arith, sym, ◌∙◌, length}
-use Rattle.data_core.specs.Pairs.{below, up_to}
+use Rattle.std.proofs.Common.{◌-◌, arith, length}
 use Rattle.data_core.proofs.Probes.{at_start, up_to≤length, below≤up_to_pairs, probe_less, probe_greater, probe_equal, halved-step, cost-step}
 use Rattle.data_core.proofs.search.place.Goals as goal
 
