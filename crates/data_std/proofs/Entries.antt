@@ -1,5 +1,5 @@
 -- The entries of a map, read one after the other.
-use Rattle.std.proofs.Common.{◌≡◌, ℕ, Bool, List, [], ◌∷◌, ◌++◌, Option, Some, None, Result, Ok, Err, refl, inl, inr}
+use Rattle.std.proofs.Common.{◌≡◌, ℕ, List, [], ◌∷◌, ◌++◌, Option, Some, None, refl, inl, inr}
 use Rattle.std.specs.declared.cmp.Ordering.{Ordering}
 use Rattle.std.specs.BTreeMap.{insert_entry}
 use Rattle.data_core.specs.declared.fault.Fault.{Fault}
@@ -8,27 +8,9 @@ use Rattle.data_core.specs.declared.path.Segment.TheVariants.{Unknown}
 use Rattle.data_core.specs.Ask.{Ask}
 use Rattle.data_core.specs.Source.{Source, Entries, no_entries, entry}
 use Rattle.data_core.specs.Table.{IsKey, IsValue, IsCaught, entry_segment, segment_of_key, rest_of_entries, value_of}
-use Rattle.data_core.specs.Tracking.{Refusal}
-use Rattle.data_core.specs.Outcome.{Outcome, given, refused, RefusedAmong, Among}
+use Rattle.data_core.specs.Outcome.{Outcome, given, refused}
 use Rattle.data_std.specs.Pairs.{NextReads, EntriesRead, inserted}
 use Rattle.data_std.proofs.Elements.{after}
-
--- what is among some outcomes is among more
-RefusedAmong-within : {A : Type 0} (tracks : Bool) (fault : Option Fault) (P Q : Outcome A → Type 0) (old new : Refusal)
-    → ((o : Outcome A) → P o → Q o) → RefusedAmong tracks fault P old new → RefusedAmong tracks fault Q old new
-RefusedAmong-within tracks None P Q old new within h = tt
-RefusedAmong-within tracks (Some f) P Q old new within h = (h.0, within (refused f h.0) h.1, h.2)
-
-pub Among-within : {A E : Type 0} (fault : E → Option Fault) (tracks : Bool) (r : Result A E) (P Q : Outcome A → Type 0) (old new : Refusal)
-    → ((o : Outcome A) → P o → Q o) → Among fault tracks r P old new → Among fault tracks r Q old new
-Among-within fault tracks (Ok a) P Q old new within h = (within (given a) h.0, h.1)
-Among-within fault tracks (Err e) P Q old new within h = RefusedAmong-within tracks (fault e) P Q old new within h
-
-pub IsValue-within : {A : Type 0} (segment : Segment) (reads all : Source → Outcome A → Type 0) (waiting : Option Source) → ((s : Source) (o : Outcome A) → reads s o → all s o)
-    → (o : Outcome A) → IsValue segment reads waiting o → IsValue segment all waiting o
-IsValue-within segment reads all None within o h = absurd h
-IsValue-within segment reads all (Some s) within (given a) h = within s (given a) h
-IsValue-within segment reads all (Some s) within (refused f path) h = (h.0, within s (refused f h.0) h.1, h.2)
 
 -- the segment of the next entry
 abbrev pub next_segment : Ask → Entries → Segment

@@ -3,3 +3,4 @@ pub mod Elements
 pub mod Items
 pub mod Keys
 pub mod Entries
+pub mod Within

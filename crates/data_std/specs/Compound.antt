@@ -5,8 +5,8 @@ use Rattle.data_core.specs.declared.fault.Fault.TheVariants.{InvalidLength}
 use Rattle.data_core.specs.declared.path.Segment.TheVariants.{Seq}
 use Rattle.data_core.specs.Source.{Source, Offer, scalar, none, unit, some, elements, Sources, end, more}
 use Rattle.data_core.specs.Sequence.{rest_of, surplus}
-use Rattle.data_core.specs.Outcome.{Outcome, given, refused, not_taken}
-use Rattle.data_std.specs.Reads.{IsOutcome, Under, AndThen}
+use Rattle.data_core.specs.Outcome.{Outcome, given, refused, IsUnder, not_taken}
+use Rattle.data_std.specs.Reads.{IsOutcome, AndThen}
 
 -- nothing for what is absent or a unit, and else something of what the inside is read as
 abbrev pub OptionReads : {T : Type 0} → (Source → Outcome T → Type 0) → Offer → Outcome (Option T) → Type 0
@@ -24,7 +24,7 @@ BoxReads view reads offer (refused f path) = reads offer (refused f path)
 abbrev pub EachReads : {T : Type 0} → (Source → Outcome T → Type 0) → ℕ → Sources → Outcome (List T) → Type 0
 EachReads reads i end outcome = outcome ≡ given []
 EachReads reads i (more s ss) outcome =
-    AndThen (Under (Seq i) (reads s)) (λ x. AndThen (EachReads reads (i + 1) ss) (λ xs o. o ≡ given (x ∷ xs))) outcome
+    AndThen (IsUnder (Seq i) (reads s)) (λ x. AndThen (EachReads reads (i + 1) ss) (λ xs o. o ≡ given (x ∷ xs))) outcome
 
 -- a sequence, read by what is made of its elements
 abbrev pub SequenceReads : {T : Type 0} → (Bool → Sources → Outcome T → Type 0) → Offer → Outcome T → Type 0
@@ -41,7 +41,7 @@ ListReads view reads = SequenceReads (λ checks. ElementsRead view reads 0)
 -- the element at a place of a tuple, which must be there
 abbrev pub PartReads : {T : Type 0} → (Source → Outcome T → Type 0) → ℕ → Sources → Outcome T → Type 0
 PartReads reads i end outcome = outcome ≡ refused (InvalidLength i) []
-PartReads reads i (more s ss) outcome = Under (Seq i) (reads s) outcome
+PartReads reads i (more s ss) outcome = IsUnder (Seq i) (reads s) outcome
 
 -- a value, unless this is refused in its place
 abbrev pub unless : {T : Type 0} → Option Fault → T → Outcome T

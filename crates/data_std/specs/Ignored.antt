@@ -3,10 +3,12 @@ use Rattle.std.specs.Prelude.{ℕ, ◌+◌, max, [], ◌∷◌, Option, Some, No
 use Rattle.data_core.specs.declared.path.Segment.{Segment}
 use Rattle.data_core.specs.declared.path.Segment.TheVariants.{Seq}
 use Rattle.data_core.specs.Ask.{ignored_any}
-use Rattle.data_core.specs.Source.{Source, source, Offer, scalar, some_itself, some, elements, newtype_itself, newtype_struct, entries, Sources, end, more, Entries, no_entries, entry}
+use Rattle.data_core.specs.Source.{Source, source, Offer, scalar, some_itself, some, elements, newtype_itself, newtype_struct, entries, variant_itself, variant, Sources, end, more, Entries, no_entries, entry}
 use Rattle.data_core.specs.Source as offer
+use Rattle.data_core.specs.Wanted.{newtype}
 use Rattle.data_core.specs.Table.{segment_of_key}
-use Rattle.data_core.specs.Outcome.{Outcome, given, refused, under, and_then}
+use Rattle.data_core.specs.Choice.{segment_of_variant}
+use Rattle.data_core.specs.Outcome.{Outcome, given, refused, under, bare, and_then}
 
 -- the outcome of a key one level further out: a refusal's path is its entry's segment alone
 abbrev pub at_key : {A : Type 0} → Segment → Outcome A → Outcome A
@@ -22,6 +24,7 @@ abbrev mutual
   pub ignored : Source → Outcome (Unit {0})
   ignored (source offers) = ignored_offer (offers ignored_any)
 
+  -- a variant is its name and then its payload, as the inside of a newtype
   pub ignored_offer : Offer → Outcome (Unit {0})
   ignored_offer (scalar s) = given tt
   ignored_offer some_itself = given tt
@@ -30,6 +33,9 @@ abbrev mutual
   ignored_offer newtype_itself = given tt
   ignored_offer (newtype_struct s) = ignored s
   ignored_offer (entries checks es) = ignored_entries es
+  ignored_offer (variant_itself payload) = given tt
+  ignored_offer (variant name payload) =
+      and_then (bare (ignored name)) (λ u. under (segment_of_variant ignored_any name) (ignored_offer (payload newtype)))
   ignored_offer (offer.refused f) = refused f []
 
   -- each element in turn, from a place in the sequence on, up to the first fault
@@ -56,6 +62,8 @@ abbrev mutual
   depth_of_offer newtype_itself = 0
   depth_of_offer (newtype_struct s) = depth s
   depth_of_offer (entries checks es) = depth_of_entries es
+  depth_of_offer (variant_itself payload) = 0
+  depth_of_offer (variant name payload) = max (depth name) (depth_of_offer (payload newtype))
   depth_of_offer (offer.refused f) = 0
 
   pub depth_of_all : Sources → ℕ

@@ -12,20 +12,20 @@ use Rattle.data_std.specs.declared.pairs.PairsLevel.TheVariants as sequences
 use Rattle.data_std.specs.declared.pairs.EntriesLevel.{EntriesLevel}
 use Rattle.data_std.specs.declared.pairs.EntriesLevel.TheVariants as maps
 
-module _ {D E T B S M : Type 0} (sources : D → Source) where
-  abbrev pub source_of : MapLevel D E T B S M → Source
+module _ {D E T B S M V : Type 0} (sources : D → Source) where
+  abbrev pub source_of : MapLevel D E T B S M V → Source
   source_of (levels.Whole pairs) = pairs_source sources pairs.items
   source_of (levels.Pair first second) = pair_of sources first second
   source_of (levels.Part d) = sources d
 
-  abbrev pub sequence_of : (S → Sequence) → PairsLevel D E T B S M → Sequence
+  abbrev pub sequence_of : (S → Sequence) → PairsLevel D E T B S M V → Sequence
   sequence_of sequence (sequences.Whole pairs) =
       record { left = pair_sources sources (left_of pairs); taken = taken_of pairs; checks = true }
   sequence_of sequence (sequences.Pair first second) =
       record { left = parts_of sources first second; taken = 2 - count (parts_of sources first second); checks = true }
   sequence_of sequence (sequences.Part s) = sequence s
 
-  abbrev pub table_of : (M → Table) → EntriesLevel D E T B S M → Table
+  abbrev pub table_of : (M → Table) → EntriesLevel D E T B S M V → Table
   table_of table (maps.Whole pairs value) = record {
     left = pair_entries sources (left_of pairs);
     taken = taken_of pairs;

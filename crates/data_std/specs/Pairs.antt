@@ -6,13 +6,13 @@ use Rattle.data_core.specs.declared.path.Segment.{Segment}
 use Rattle.data_core.specs.Ask.{Ask}
 use Rattle.data_core.specs.Source.{Source, Offer, entries, Entries, no_entries, entry}
 use Rattle.data_core.specs.Table.{segment_of_key}
-use Rattle.data_core.specs.Outcome.{Outcome, given, not_taken}
-use Rattle.data_std.specs.Reads.{IsOutcome, Under, AtKey, AndThen}
+use Rattle.data_core.specs.Outcome.{Outcome, given, IsUnder, not_taken}
+use Rattle.data_std.specs.Reads.{IsOutcome, AtKey, AndThen}
 
 -- a key and then its value, both at the segment of their entry
 abbrev pub PairReads : {K V : Type 0} → Segment → (Outcome K → Type 0) → (Outcome V → Type 0) → Outcome (K × V) → Type 0
 PairReads {K} {V} segment key value =
-    AndThen (AtKey segment key) (λ x. AndThen (Under segment value) (λ y o. let both : K × V = (x, y) in o ≡ given both))
+    AndThen (AtKey segment key) (λ x. AndThen (IsUnder segment value) (λ y o. let both : K × V = (x, y) in o ≡ given both))
 
 -- the next entry, and nothing where none is left
 abbrev pub NextReads : {K V : Type 0} → Ask → (Source → Outcome K → Type 0) → (Source → Outcome V → Type 0) → Entries → Outcome (Option (K × V)) → Type 0

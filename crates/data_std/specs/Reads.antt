@@ -14,11 +14,6 @@ IsOutcome view o (refused f path) = o ≡ refused f path
 abbrev pub ReadsFrom : {A : Type 0} → Ask → (Offer → Outcome A → Type 0) → Source → Outcome A → Type 0
 ReadsFrom asks reads s = reads (offer_of s asks)
 
--- the outcomes of a part that this segment leads to
-abbrev pub Under : {A : Type 0} → Segment → (Outcome A → Type 0) → Outcome A → Type 0
-Under segment reads (given a) = reads (given a)
-Under segment reads (refused f path) = (inner : List Segment) × reads (refused f inner) × (path ≡ segment ∷ inner)
-
 -- the outcomes of a key of the entry that this segment leads to, whose inner path is dropped
 abbrev pub AtKey : {A : Type 0} → Segment → (Outcome A → Type 0) → Outcome A → Type 0
 AtKey segment reads (given a) = reads (given a)

@@ -10,12 +10,12 @@ use Rattle.data_std.specs.declared.sequences.Level.TheVariants as levels
 use Rattle.data_std.specs.declared.sequences.ElementsLevel.{ElementsLevel}
 use Rattle.data_std.specs.declared.sequences.ElementsLevel.TheVariants as under_way
 
-module _ {D E T B S M : Type 0} where
-  abbrev pub source_of : (D → Source) → Level D E T B S M → Source
+module _ {D E T B S M V : Type 0} where
+  abbrev pub source_of : (D → Source) → Level D E T B S M V → Source
   source_of sources (levels.Whole items) = source (λ a. spec.elements true (sources_of sources items.items))
   source_of sources (levels.Part d) = sources d
 
-  abbrev pub sequence_of : (D → Source) → (S → Sequence) → ElementsLevel D E T B S M → Sequence
+  abbrev pub sequence_of : (D → Source) → (S → Sequence) → ElementsLevel D E T B S M V → Sequence
   sequence_of sources sequence (under_way.Whole items) =
       record { left = sources_of sources (left_of items); taken = taken_of items; checks = true }
   sequence_of sources sequence (under_way.Part s) = sequence s

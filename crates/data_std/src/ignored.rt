@@ -3,9 +3,12 @@ ghost use Rattle.std.specs.Prelude.{◌≡◌, true, Some, OnOk, IsSome};
 ghost use Rattle.data_core.specs.Ask.{ignored_any};
 ghost use Rattle.data_core.specs.Source.{Source, end, no_entries, offer_of};
 ghost use Rattle.data_core.specs.Table.{Catches, text_of, with_caught, entry_segment, segment_of_key};
+ghost use Rattle.data_core.specs.Source as offer;
+ghost use Rattle.data_core.specs.Wanted.{newtype};
+ghost use Rattle.data_core.specs.Choice.{name_caught, variant_segment};
 ghost use Rattle.data_core.specs.declared.path.Segment.{Segment};
 ghost use Rattle.data_core.specs.Show.{shown_offer, Begins};
-ghost use Rattle.data_core.specs.Outcome.{under, Gives};
+ghost use Rattle.data_core.specs.Outcome.{under, bare, Gives};
 ghost use Rattle.data_std.specs.Ignored.{ignored, ignored_offer, ignored_rest, ignored_entries, ignored_pair, at_key};
 ghost use Rattle.data_std.specs.Reads.{IsOutcome};
 
@@ -185,7 +188,7 @@ fn ignore_shown<D: Deserializer>(
 ) -> Result<(), D::Error>
     requires { Begins D.sequence D.table shown }
     ensures { Gives D.Error.fault D.tracks (λ u. u) result
-        (ignored_offer (shown_offer D.Text.text D.Bytes.bytes D.source D.sequence D.table shown)) track.old track.new }
+        (ignored_offer (shown_offer D.Text.text D.Bytes.bytes D.source D.sequence D.table D.choice shown)) track.old track.new }
 {
     match shown {
         Shown::Scalar(_) => Ok(()),
@@ -198,5 +201,91 @@ fn ignore_shown<D: Deserializer>(
             let mut map = map;
             ignore_entries::<D>(alloc, &mut map, track)
         }
+        Shown::Enum(name, variant) => {
+            let mut variant = variant;
+            ignore_variant(alloc, &mut variant, name, track)
+        }
     }
+}
+
+// Reads the name of a variant and then its payload, and drops both.
+#[cycle(ignore)]
+fn ignore_variant<D: Deserializer>(
+    alloc: Global,
+    variant: &mut D::Variant,
+    name: D,
+    track: &mut Track,
+) -> Result<(), D::Error>
+    ensures { Gives D.Error.fault D.tracks (λ u. u) result
+        (ignored_offer (offer.variant (D.source name) (D.choice variant.old).payload)) track.old track.new }
+{
+    ignore_name(alloc, variant, name, track)?;
+    ignore_payload::<D>(alloc, variant, track)
+}
+
+// Reads the name of a variant, and drops it.
+#[cycle(ignore)]
+fn ignore_name<D: Deserializer>(
+    alloc: Global,
+    variant: &mut D::Variant,
+    name: D,
+    track: &mut Track,
+) -> Result<(), D::Error>
+    ensures value { Gives D.Error.fault D.tracks (λ u. u) result (bare (ignored (D.source name))) track.old track.new }
+    ensures caught { D.tracks ≡ true → OnOk result ((D.choice variant.new).caught ≡ text_of (offer_of (D.source name) ignored_any)) }
+    ensures payload { OnOk result ((D.choice variant.new).payload ≡ (D.choice variant.old).payload) }
+{
+    let held = track.holds();
+    let read = visit_name(alloc, variant, name, track);
+    D::leave_name(variant, held, read.is_err(), track)?;
+    read
+}
+
+// Reads what the name shows, and drops it.
+#[cycle(ignore)]
+fn visit_name<D: Deserializer>(
+    alloc: Global,
+    variant: &mut D::Variant,
+    name: D,
+    track: &mut Track,
+) -> Result<(), D::Error>
+    ensures value { Gives D.Error.fault D.tracks (λ u. u) result (ignored (D.source name)) track.old track.new }
+    ensures caught { D.tracks ≡ true → Catches D.Error.fault result (D.choice variant.new).caught
+        (text_of (offer_of (D.source name) ignored_any)) }
+    ensures choice { D.choice variant.new ≡ name_caught (D.choice variant.new).caught (D.choice variant.old) }
+{
+    let shown = D::show_name(variant, name, Hint::IgnoredAny)?;
+    ignore_shown(alloc, shown, track)
+}
+
+// Reads the payload of a variant as the inside of a newtype, and drops it.
+#[cycle(ignore)]
+fn ignore_payload<D: Deserializer>(
+    alloc: Global,
+    variant: &mut D::Variant,
+    track: &mut Track,
+) -> Result<(), D::Error>
+    ensures { (segment : Segment) → (D.tracks ≡ true → segment ≡ variant_segment (D.choice variant.old).caught)
+        → Gives D.Error.fault D.tracks (λ u. u) result
+        (under segment (ignored_offer ((D.choice variant.old).payload newtype))) track.old track.new }
+{
+    let held = track.holds();
+    let read = ignore_inside::<D>(alloc, variant, track);
+    D::leave_payload(variant, held, read.is_err(), track)?;
+    read
+}
+
+// Reads the inside of a newtype variant, and drops it.
+#[cycle(ignore)]
+fn ignore_inside<D: Deserializer>(
+    alloc: Global,
+    variant: &mut D::Variant,
+    track: &mut Track,
+) -> Result<(), D::Error>
+    ensures value { Gives D.Error.fault D.tracks (λ u. u) result
+        (ignored_offer ((D.choice variant.old).payload newtype)) track.old track.new }
+    ensures caught { (D.choice variant.new).caught ≡ (D.choice variant.old).caught }
+{
+    let inside = D::newtype_variant(alloc, variant)?;
+    ignore(alloc, inside, track)
 }

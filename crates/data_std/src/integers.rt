@@ -78,7 +78,7 @@ pub(crate) fn visit_integer<D: Deserializer, N: Integer>(
     shown: Shown<D>,
 ) -> Result<N, D::Error>
     ensures { Answers D.Error.fault N.number result
-        (integer_of N.least N.greatest (shown_offer D.Text.text D.Bytes.bytes D.source D.sequence D.table shown)) }
+        (integer_of N.least N.greatest (shown_offer D.Text.text D.Bytes.bytes D.source D.sequence D.table D.choice shown)) }
 {
     match shown {
         Shown::Scalar(Scalar::U8(n)) => unsigned::<D, N>(alloc, u64::from(n)),

@@ -9,8 +9,9 @@ ghost use Rattle.data_std.specs.PairSources.{parts_of, pair_of, pairs_source, pa
 ghost use Rattle.data_std.specs.Waiting.{left_of, taken_of};
 
 use crate::ends::{end_of_items, wrong_length};
+use crate::part_variant::PartVariant;
 use crate::waiting::Waiting;
-use data_core::{DeError, Deserializer, Hint, Shown, Track};
+use data_core::{DeError, Deserializer, Hint, Names, Shown, Track};
 use std::alloc::Global;
 
 /// A deserializer that shows its pairs as the entries of a map: serde's `MapDeserializer`. To a reader
@@ -73,6 +74,8 @@ impl<D: Deserializer> Deserializer for MapDeserializer<D> {
 
     type Map = MapEntries<D>;
 
+    type Variant = PartVariant<D>;
+
     ghost use Rattle.data_std.specs.MapSources.{source_of, sequence_of, table_of};
 
     ghost tracks = { false };
@@ -82,6 +85,8 @@ impl<D: Deserializer> Deserializer for MapDeserializer<D> {
     ghost sequence = { λ s. sequence_of D.source D.sequence s.level };
 
     ghost table = { λ m. table_of D.source D.table m.level };
+
+    ghost choice = { λ v. D.choice v.variant };
 
     fn show(self, hint: Hint<'_>) -> Result<Shown<MapDeserializer<D>>, D::Error> {
         let alloc = self.alloc;
@@ -223,6 +228,71 @@ impl<D: Deserializer> Deserializer for MapDeserializer<D> {
             EntriesLevel::Part(map) => D::end_map(alloc, map),
         }
     }
+
+    fn show_name(
+        _variant: &mut PartVariant<D>,
+        name: MapDeserializer<D>,
+        hint: Hint<'_>,
+    ) -> Result<Shown<MapDeserializer<D>>, D::Error> {
+        name.show(hint)
+    }
+
+    fn leave_name(
+        _variant: &mut PartVariant<D>,
+        _held: bool,
+        _failed: bool,
+        _track: &mut Track,
+    ) -> Result<(), D::Error> {
+        Ok(())
+    }
+
+    fn unit_variant(alloc: Global, variant: &mut PartVariant<D>) -> Result<(), D::Error> {
+        D::unit_variant(alloc, &mut variant.variant)
+    }
+
+    fn newtype_variant(
+        alloc: Global,
+        variant: &mut PartVariant<D>,
+    ) -> Result<MapDeserializer<D>, D::Error> {
+        let d = D::newtype_variant(alloc, &mut variant.variant)?;
+        Ok(MapDeserializer {
+            alloc,
+            level: MapLevel::Part(d),
+        })
+    }
+
+    fn tuple_variant(
+        alloc: Global,
+        variant: &mut PartVariant<D>,
+        len: usize,
+    ) -> Result<MapElements<D>, D::Error> {
+        let seq = D::tuple_variant(alloc, &mut variant.variant, len)?;
+        Ok(MapElements {
+            alloc,
+            level: PairsLevel::Part(seq),
+        })
+    }
+
+    fn struct_variant(
+        alloc: Global,
+        variant: &mut PartVariant<D>,
+        fields: &Names,
+    ) -> Result<MapEntries<D>, D::Error> {
+        let map = D::struct_variant(alloc, &mut variant.variant, fields)?;
+        Ok(MapEntries {
+            alloc,
+            level: EntriesLevel::Part(map),
+        })
+    }
+
+    fn leave_payload(
+        _variant: &mut PartVariant<D>,
+        _held: bool,
+        _failed: bool,
+        _track: &mut Track,
+    ) -> Result<(), D::Error> {
+        Ok(())
+    }
 }
 
 impl<D: Deserializer> MapDeserializer<D> {
@@ -324,7 +394,7 @@ fn show_pairs<D: Deserializer>(
 ) -> Shown<MapDeserializer<D>>
     requires { D.tracks ≡ false }
     ensures offer { shown_offer D.Text.text D.Bytes.bytes ⟦<MapDeserializer<D> as Deserializer>⟧.source
-        ⟦<MapDeserializer<D> as Deserializer>⟧.sequence ⟦<MapDeserializer<D> as Deserializer>⟧.table result
+        ⟦<MapDeserializer<D> as Deserializer>⟧.sequence ⟦<MapDeserializer<D> as Deserializer>⟧.table ⟦<MapDeserializer<D> as Deserializer>⟧.choice result
         ≡ offer_of (pairs_source D.source pairs.items) (ask hint.entry) }
     ensures begins { Begins ⟦<MapDeserializer<D> as Deserializer>⟧.sequence ⟦<MapDeserializer<D> as Deserializer>⟧.table result }
 {
@@ -350,7 +420,7 @@ fn show_pair<D: Deserializer>(
 ) -> Result<Shown<MapDeserializer<D>>, D::Error>
     requires { D.tracks ≡ false }
     ensures shows { Shows D.Text.text D.Bytes.bytes ⟦<MapDeserializer<D> as Deserializer>⟧.source
-        ⟦<MapDeserializer<D> as Deserializer>⟧.sequence ⟦<MapDeserializer<D> as Deserializer>⟧.table D.Error.fault result
+        ⟦<MapDeserializer<D> as Deserializer>⟧.sequence ⟦<MapDeserializer<D> as Deserializer>⟧.table ⟦<MapDeserializer<D> as Deserializer>⟧.choice D.Error.fault result
         (offer_of (pair_of D.source first second) (ask hint.entry)) }
     ensures begins { IfOk result (Begins ⟦<MapDeserializer<D> as Deserializer>⟧.sequence ⟦<MapDeserializer<D> as Deserializer>⟧.table) }
 {
@@ -367,8 +437,8 @@ fn show_pair<D: Deserializer>(
 fn show_part<D: Deserializer>(alloc: Global, shown: Shown<D>) -> Shown<MapDeserializer<D>>
     requires { D.tracks ≡ false }
     ensures offer { shown_offer D.Text.text D.Bytes.bytes ⟦<MapDeserializer<D> as Deserializer>⟧.source
-        ⟦<MapDeserializer<D> as Deserializer>⟧.sequence ⟦<MapDeserializer<D> as Deserializer>⟧.table result
-        ≡ shown_offer D.Text.text D.Bytes.bytes D.source D.sequence D.table shown }
+        ⟦<MapDeserializer<D> as Deserializer>⟧.sequence ⟦<MapDeserializer<D> as Deserializer>⟧.table ⟦<MapDeserializer<D> as Deserializer>⟧.choice result
+        ≡ shown_offer D.Text.text D.Bytes.bytes D.source D.sequence D.table D.choice shown }
     ensures begins { Begins D.sequence D.table shown
         → Begins ⟦<MapDeserializer<D> as Deserializer>⟧.sequence ⟦<MapDeserializer<D> as Deserializer>⟧.table result }
 {
@@ -390,5 +460,12 @@ fn show_part<D: Deserializer>(alloc: Global, shown: Shown<D>) -> Shown<MapDeseri
             alloc,
             level: EntriesLevel::Part(map),
         }),
+        Shown::Enum(name, variant) => Shown::Enum(
+            MapDeserializer {
+                alloc,
+                level: MapLevel::Part(name),
+            },
+            PartVariant { variant },
+        ),
     }
 }

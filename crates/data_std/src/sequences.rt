@@ -6,8 +6,9 @@ ghost use Rattle.data_core.specs.Sequence.{Ends, surplus};
 ghost use Rattle.data_std.specs.Items.{sources_of};
 
 use crate::ends::end_of_items;
+use crate::part_variant::PartVariant;
 use crate::waiting::Waiting;
-use data_core::{Deserializer, Hint, Shown, Track};
+use data_core::{Deserializer, Hint, Names, Shown, Track};
 use std::alloc::Global;
 
 /// A deserializer that shows its items as the elements of a sequence, whatever is hoped for: serde's
@@ -56,6 +57,8 @@ impl<D: Deserializer> Deserializer for SeqDeserializer<D> {
 
     type Map = SeqEntries<D>;
 
+    type Variant = PartVariant<D>;
+
     ghost use Rattle.data_std.specs.Sequences.{source_of, sequence_of};
 
     ghost tracks = { false };
@@ -65,6 +68,8 @@ impl<D: Deserializer> Deserializer for SeqDeserializer<D> {
     ghost sequence = { λ s. sequence_of D.source D.sequence s.level };
 
     ghost table = { λ m. D.table m.map };
+
+    ghost choice = { λ v. D.choice v.variant };
 
     fn show(self, hint: Hint<'_>) -> Result<Shown<SeqDeserializer<D>>, D::Error> {
         let level = self.level;
@@ -176,13 +181,73 @@ impl<D: Deserializer> Deserializer for SeqDeserializer<D> {
     fn end_map(alloc: Global, map: SeqEntries<D>) -> Result<(), D::Error> {
         D::end_map(alloc, map.map)
     }
+
+    fn show_name(
+        _variant: &mut PartVariant<D>,
+        name: SeqDeserializer<D>,
+        hint: Hint<'_>,
+    ) -> Result<Shown<SeqDeserializer<D>>, D::Error> {
+        name.show(hint)
+    }
+
+    fn leave_name(
+        _variant: &mut PartVariant<D>,
+        _held: bool,
+        _failed: bool,
+        _track: &mut Track,
+    ) -> Result<(), D::Error> {
+        Ok(())
+    }
+
+    fn unit_variant(alloc: Global, variant: &mut PartVariant<D>) -> Result<(), D::Error> {
+        D::unit_variant(alloc, &mut variant.variant)
+    }
+
+    fn newtype_variant(
+        alloc: Global,
+        variant: &mut PartVariant<D>,
+    ) -> Result<SeqDeserializer<D>, D::Error> {
+        let d = D::newtype_variant(alloc, &mut variant.variant)?;
+        Ok(SeqDeserializer {
+            level: Level::Part(d),
+        })
+    }
+
+    fn tuple_variant(
+        alloc: Global,
+        variant: &mut PartVariant<D>,
+        len: usize,
+    ) -> Result<SeqElements<D>, D::Error> {
+        let seq = D::tuple_variant(alloc, &mut variant.variant, len)?;
+        Ok(SeqElements {
+            level: ElementsLevel::Part(seq),
+        })
+    }
+
+    fn struct_variant(
+        alloc: Global,
+        variant: &mut PartVariant<D>,
+        fields: &Names,
+    ) -> Result<SeqEntries<D>, D::Error> {
+        let map = D::struct_variant(alloc, &mut variant.variant, fields)?;
+        Ok(SeqEntries { map })
+    }
+
+    fn leave_payload(
+        _variant: &mut PartVariant<D>,
+        _held: bool,
+        _failed: bool,
+        _track: &mut Track,
+    ) -> Result<(), D::Error> {
+        Ok(())
+    }
 }
 
 // All items, as the elements of a sequence.
 fn whole<D: Deserializer>(items: Vec<D>) -> Shown<SeqDeserializer<D>>
     requires { D.tracks ≡ false }
     ensures offer { shown_offer D.Text.text D.Bytes.bytes ⟦<SeqDeserializer<D> as Deserializer>⟧.source
-        ⟦<SeqDeserializer<D> as Deserializer>⟧.sequence ⟦<SeqDeserializer<D> as Deserializer>⟧.table result
+        ⟦<SeqDeserializer<D> as Deserializer>⟧.sequence ⟦<SeqDeserializer<D> as Deserializer>⟧.table ⟦<SeqDeserializer<D> as Deserializer>⟧.choice result
         ≡ elements true (sources_of D.source items.items) }
     ensures begins { Begins ⟦<SeqDeserializer<D> as Deserializer>⟧.sequence ⟦<SeqDeserializer<D> as Deserializer>⟧.table result }
 {
@@ -195,8 +260,8 @@ fn whole<D: Deserializer>(items: Vec<D>) -> Shown<SeqDeserializer<D>>
 fn part<D: Deserializer>(shown: Shown<D>) -> Shown<SeqDeserializer<D>>
     requires { D.tracks ≡ false }
     ensures offer { shown_offer D.Text.text D.Bytes.bytes ⟦<SeqDeserializer<D> as Deserializer>⟧.source
-        ⟦<SeqDeserializer<D> as Deserializer>⟧.sequence ⟦<SeqDeserializer<D> as Deserializer>⟧.table result
-        ≡ shown_offer D.Text.text D.Bytes.bytes D.source D.sequence D.table shown }
+        ⟦<SeqDeserializer<D> as Deserializer>⟧.sequence ⟦<SeqDeserializer<D> as Deserializer>⟧.table ⟦<SeqDeserializer<D> as Deserializer>⟧.choice result
+        ≡ shown_offer D.Text.text D.Bytes.bytes D.source D.sequence D.table D.choice shown }
     ensures begins { Begins D.sequence D.table shown
         → Begins ⟦<SeqDeserializer<D> as Deserializer>⟧.sequence ⟦<SeqDeserializer<D> as Deserializer>⟧.table result }
 {
@@ -212,6 +277,12 @@ fn part<D: Deserializer>(shown: Shown<D>) -> Shown<SeqDeserializer<D>>
             level: ElementsLevel::Part(seq),
         }),
         Shown::Map(map) => Shown::Map(SeqEntries { map }),
+        Shown::Enum(name, variant) => Shown::Enum(
+            SeqDeserializer {
+                level: Level::Part(name),
+            },
+            PartVariant { variant },
+        ),
     }
 }
 

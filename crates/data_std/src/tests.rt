@@ -1,26 +1,28 @@
 //! Types that are read from scalars, sequences and maps of them. The wanted values are those of serde's
 //! own readers, but for what they call expected.
 ghost use Rattle.std.specs.Prelude.{false, string_bytes};
-ghost use Rattle.data_core.specs.Source.{source, scalar, some, newtype_struct, end, no_entries};
+ghost use Rattle.data_core.specs.Source.{source, scalar, some, newtype_struct, variant, end, no_entries};
+ghost use Rattle.data_core.specs.Node.{no_payload};
 ghost use Rattle.data_core.specs.Show.{scalar_view};
 
 use crate::{
     Deserialize, Error, IgnoredAny, MapDeserializer, MapEntries, SeqDeserializer, SeqElements,
-    deserialize, ignore_entries, ignore_rest, next_element, next_entry,
+    UnitOnly, deserialize, ignore_entries, ignore_rest, next_element, next_entry,
 };
-use data_core::{DeError, Deserializer, Hint, Scalar, Shown, Track};
+use data_core::{DeError, Deserializer, Hint, Names, Scalar, Shown, Track, Unexpected};
 use std::alloc::{AllocError, Global};
 use std::collections::BTreeMap;
 use std::fmt;
 use std::test::Fail;
 
-// A deserializer over one scalar, something of it or a newtype of it, which it shows whatever is hoped
-// for.
+// A deserializer over one scalar, something of it, a newtype of it or a variant of that name without a
+// payload, which it shows whatever is hoped for.
 #[derive(Drop)]
 enum Item {
     Scalar(Scalar<String, Vec<u8>>),
     Some(Scalar<String, Vec<u8>>),
     Newtype(Scalar<String, Vec<u8>>),
+    Variant(Scalar<String, Vec<u8>>),
 }
 
 #[derive(Drop)]
@@ -43,6 +45,8 @@ impl Deserializer for Item {
 
     type Map = NoEntries;
 
+    type Variant = UnitOnly;
+
     ghost use Rattle.std.specs.Prelude.{None, option_map};
     ghost use Rattle.data_core.specs.Source as spec;
     ghost use Rattle.data_std.specs.declared.tests.Item.TheVariants as item;
@@ -53,6 +57,7 @@ impl Deserializer for Item {
       | item.Scalar s ↦ source (λ _. scalar (scalar_view string_bytes (λ b. b.items) s))
       | item.Some s ↦ source (λ _. some (source (λ _. scalar (scalar_view string_bytes (λ b. b.items) s))))
       | item.Newtype s ↦ source (λ _. newtype_struct (source (λ _. scalar (scalar_view string_bytes (λ b. b.items) s))))
+      | item.Variant s ↦ source (λ _. variant (source (λ _. scalar (scalar_view string_bytes (λ b. b.items) s))) no_payload)
     ] };
 
     ghost sequence = { λ _. record { left = end; taken = 0; checks = false } };
@@ -64,16 +69,20 @@ impl Deserializer for Item {
         | item.Scalar s ↦ source (λ _. scalar (scalar_view string_bytes (λ b. b.items) s))
         | item.Some s ↦ source (λ _. some (source (λ _. scalar (scalar_view string_bytes (λ b. b.items) s))))
         | item.Newtype s ↦ source (λ _. newtype_struct (source (λ _. scalar (scalar_view string_bytes (λ b. b.items) s))))
+        | item.Variant s ↦ source (λ _. variant (source (λ _. scalar (scalar_view string_bytes (λ b. b.items) s))) no_payload)
       ]) m.waiting;
       caught = None;
       checks = false;
     } };
+
+    ghost choice = { λ _. record { payload = no_payload; caught = None } };
 
     fn show(self, _hint: Hint<'_>) -> Result<Shown<Item>, Error> {
         match self {
             Item::Scalar(scalar) => Ok(Shown::Scalar(scalar)),
             Item::Some(scalar) => Ok(Shown::Some(Item::Scalar(scalar))),
             Item::Newtype(scalar) => Ok(Shown::NewtypeStruct(Item::Scalar(scalar))),
+            Item::Variant(scalar) => Ok(Shown::Enum(Item::Scalar(scalar), UnitOnly)),
         }
     }
 
@@ -138,6 +147,56 @@ impl Deserializer for Item {
     }
 
     fn end_map(_alloc: Global, _map: NoEntries) -> Result<(), Error> {
+        Ok(())
+    }
+
+    fn show_name(
+        _variant: &mut UnitOnly,
+        name: Item,
+        hint: Hint<'_>,
+    ) -> Result<Shown<Item>, Error> {
+        name.show(hint)
+    }
+
+    fn leave_name(
+        _variant: &mut UnitOnly,
+        _held: bool,
+        _failed: bool,
+        _track: &mut Track,
+    ) -> Result<(), Error> {
+        Ok(())
+    }
+
+    fn unit_variant(_alloc: Global, _variant: &mut UnitOnly) -> Result<(), Error> {
+        Ok(())
+    }
+
+    fn newtype_variant(alloc: Global, _variant: &mut UnitOnly) -> Result<Item, Error> {
+        Err(Error::invalid_type(alloc, Unexpected::UnitVariant, "newtype variant"))
+    }
+
+    fn tuple_variant(
+        alloc: Global,
+        _variant: &mut UnitOnly,
+        _len: usize,
+    ) -> Result<NoElements, Error> {
+        Err(Error::invalid_type(alloc, Unexpected::UnitVariant, "tuple variant"))
+    }
+
+    fn struct_variant(
+        alloc: Global,
+        _variant: &mut UnitOnly,
+        _fields: &Names,
+    ) -> Result<NoEntries, Error> {
+        Err(Error::invalid_type(alloc, Unexpected::UnitVariant, "struct variant"))
+    }
+
+    fn leave_payload(
+        _variant: &mut UnitOnly,
+        _held: bool,
+        _failed: bool,
+        _track: &mut Track,
+    ) -> Result<(), Error> {
         Ok(())
     }
 }
@@ -552,6 +611,24 @@ fn what_is_ignored(rt: HostRuntime) -> Result<(), Fail> {
     assert!(rt; matches!(first, Ok(Some((1, 2)))));
     assert!(rt; ignore_entries::<MapDeserializer<Item>>(alloc, &mut entries, &mut track).is_ok());
     assert!(rt; entries.end(alloc).is_ok());
+    Ok(())
+}
+
+#[test]
+fn the_payload_of_a_variant_is_ignored_as_a_newtype(rt: HostRuntime) -> Result<(), Fail> {
+    let alloc = rt.alloc();
+    let mut variants = Vec::new(alloc);
+    variants.push(Item::Variant(text(alloc, "on")?))?;
+    let mut track = Track::new(alloc);
+    let table = [
+        deserialize::<IgnoredAny, _>(alloc, Item::Variant(text(alloc, "on")?), &mut track).err(),
+        deserialize::<IgnoredAny, _>(alloc, SeqDeserializer::new(variants), &mut track).err(),
+    ];
+    for error in table {
+        let error = error.ok_or("a unit variant was read")?;
+        let want = "invalid type: unit variant, expected newtype variant";
+        assert_eq!(rt; error.to_string(alloc)?.as_str(), want);
+    }
     Ok(())
 }
 

@@ -60,7 +60,7 @@ fn visit_wide<D: Deserializer, N: WideInteger>(
     shown: Shown<D>,
 ) -> Result<N, D::Error>
     ensures { Answers D.Error.fault N.number result
-        (wide_of N.least N.greatest (shown_offer D.Text.text D.Bytes.bytes D.source D.sequence D.table shown)) }
+        (wide_of N.least N.greatest (shown_offer D.Text.text D.Bytes.bytes D.source D.sequence D.table D.choice shown)) }
 {
     match shown {
         Shown::Scalar(Scalar::U128(n)) => wide_unsigned::<D, N>(alloc, n),

@@ -1,5 +1,6 @@
 use Rattle.std.proofs.Common.{◌≡◌, ◌+◌, ◌*◌, ◌≤◌, max}
 use Rattle.data_core.specs.Source.{count, count_entries}
+use Rattle.data_core.specs.Wanted.{newtype}
 use Rattle.data_core.specs.Show.{shown_offer}
 use Rattle.data_core.specs.Tracking.{clear}
 use Rattle.data_std.specs.Ignored.{ignored_rest, ignored_entries, depth, depth_of_offer, depth_of_all, depth_of_entries, depth_of_waiting}
@@ -31,7 +32,24 @@ decreases-ignore_entries g l = 5 * depth_of_entries (g.D.Deserializer.table l.ma
 abbrev pub decreases-ignore_shown : goal.decreases-ignore_shown
 decreases-ignore_shown g l =
     let de = g.D.Deserializer in
-    5 * depth_of_offer (shown_offer g.D.Text.TextLike.text g.D.Bytes.BytesLike.bytes de.source de.sequence de.table l.shown) + 4
+    5 * depth_of_offer (shown_offer g.D.Text.TextLike.text g.D.Bytes.BytesLike.bytes de.source de.sequence de.table de.choice l.shown) + 4
+
+abbrev pub decreases-ignore_variant : goal.decreases-ignore_variant
+decreases-ignore_variant g l =
+    let de = g.D.Deserializer in
+    5 * max (depth (de.source l.name)) (depth_of_offer ((de.choice l.variant.now).payload newtype)) + 3
+
+abbrev pub decreases-ignore_name : goal.decreases-ignore_name
+decreases-ignore_name g l = 5 * depth (g.D.Deserializer.source l.name) + 1
+
+abbrev pub decreases-visit_name : goal.decreases-visit_name
+decreases-visit_name g l = 5 * depth (g.D.Deserializer.source l.name)
+
+abbrev pub decreases-ignore_payload : goal.decreases-ignore_payload
+decreases-ignore_payload g l = 5 * depth_of_offer ((g.D.Deserializer.choice l.variant.now).payload newtype) + 2
+
+abbrev pub decreases-ignore_inside : goal.decreases-ignore_inside
+decreases-ignore_inside g l = 5 * depth_of_offer ((g.D.Deserializer.choice l.variant.now).payload newtype) + 1
 
 abbrev pub invariant-ignore_rest-elements : goal.invariant-ignore_rest-elements
 invariant-ignore_rest-elements g l =

@@ -1,7 +1,7 @@
 use Rattle.data_core.specs.Source.{offer_of}
 use Rattle.data_core.specs.Table.{IsValue}
 use Rattle.data_std.specs.Reads.{ReadsFrom}
-use Rattle.data_std.proofs.Entries.{Among-within, IsValue-within}
+use Rattle.data_std.proofs.Within.{Among-within, IsValue-within}
 use Rattle.data_std.proofs.reading.next_value.Goals as goal
 
 pub returns-in-Ok-clause-reads : goal.returns-in-Ok-clause-reads

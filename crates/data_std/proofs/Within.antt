@@ -1,0 +1,48 @@
+-- What a reader gives that gives no more than another does.
+use Rattle.std.proofs.Common.{Bool, Option, Some, None, Result, Ok, Err}
+use Rattle.data_core.specs.declared.fault.Fault.{Fault}
+use Rattle.data_core.specs.declared.path.Segment.{Segment}
+use Rattle.data_core.specs.Source.{Source, Offer, scalar, some_itself, some, elements, newtype_itself, newtype_struct, entries, variant_itself, variant}
+use Rattle.data_core.specs.Source as offer
+use Rattle.data_core.specs.Table.{IsValue}
+use Rattle.data_core.specs.Choice.{IsInside}
+use Rattle.data_core.specs.Tracking.{Refusal}
+use Rattle.data_core.specs.Outcome.{Outcome, given, refused, IsUnder, RefusedAmong, Among}
+
+-- what is among some outcomes is among more
+RefusedAmong-within : {A : Type 0} (tracks : Bool) (fault : Option Fault) (P Q : Outcome A → Type 0) (old new : Refusal)
+    → ((o : Outcome A) → P o → Q o) → RefusedAmong tracks fault P old new → RefusedAmong tracks fault Q old new
+RefusedAmong-within tracks None P Q old new within h = tt
+RefusedAmong-within tracks (Some f) P Q old new within h = (h.0, within (refused f h.0) h.1, h.2)
+
+pub Among-within : {A E : Type 0} (fault : E → Option Fault) (tracks : Bool) (r : Result A E) (P Q : Outcome A → Type 0) (old new : Refusal)
+    → ((o : Outcome A) → P o → Q o) → Among fault tracks r P old new → Among fault tracks r Q old new
+Among-within fault tracks (Ok a) P Q old new within h = (within (given a) h.0, h.1)
+Among-within fault tracks (Err e) P Q old new within h = RefusedAmong-within tracks (fault e) P Q old new within h
+
+IsUnder-within : {A : Type 0} (segment : Segment) (P Q : Outcome A → Type 0) → ((o : Outcome A) → P o → Q o) → (o : Outcome A) → IsUnder segment P o → IsUnder segment Q o
+IsUnder-within segment P Q within (given a) h = within (given a) h
+IsUnder-within segment P Q within (refused f path) h = (h.0, within (refused f h.0) h.1, h.2)
+
+pub IsValue-within : {A : Type 0} (segment : Segment) (reads all : Source → Outcome A → Type 0) (waiting : Option Source) → ((s : Source) (o : Outcome A) → reads s o → all s o)
+    → (o : Outcome A) → IsValue segment reads waiting o → IsValue segment all waiting o
+IsValue-within segment reads all None within o h = absurd h
+IsValue-within segment reads all (Some s) within o h = IsUnder-within segment (reads s) (all s) (within s) o h
+
+IsInside-within : {A : Type 0} (reads all : Source → Outcome A → Type 0) → ((s : Source) (o : Outcome A) → reads s o → all s o)
+    → (offered : Offer) (o : Outcome A) → IsInside reads offered o → IsInside all offered o
+IsInside-within reads all within (scalar s) o h = absurd h
+IsInside-within reads all within some_itself o h = absurd h
+IsInside-within reads all within (some s) o h = absurd h
+IsInside-within reads all within (elements checks ss) o h = absurd h
+IsInside-within reads all within newtype_itself o h = absurd h
+IsInside-within reads all within (newtype_struct s) o h = within s o h
+IsInside-within reads all within (entries checks es) o h = absurd h
+IsInside-within reads all within (variant_itself payload) o h = absurd h
+IsInside-within reads all within (variant name payload) o h = absurd h
+IsInside-within reads all within (offer.refused f) o h = h
+
+pub IsUnder-inside : {A : Type 0} (segment : Segment) (reads all : Source → Outcome A → Type 0) (offered : Offer) → ((s : Source) (o : Outcome A) → reads s o → all s o)
+    → (o : Outcome A) → IsUnder segment (IsInside reads offered) o → IsUnder segment (IsInside all offered) o
+IsUnder-inside segment reads all offered within =
+    IsUnder-within segment (IsInside reads offered) (IsInside all offered) (IsInside-within reads all within offered)

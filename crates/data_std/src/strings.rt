@@ -1,0 +1,288 @@
+//! Deserializers over texts that are at hand.
+ghost use Rattle.std.specs.Prelude.{◌≡◌, None, false, option_map, string_bytes};
+ghost use Rattle.data_core.specs.Node.{no_payload};
+ghost use Rattle.data_core.specs.Source.{end, no_entries};
+ghost use Rattle.data_std.specs.Texts.{text_source};
+
+use crate::into::IntoDeserializer;
+use data_core::{DeError, Deserializer, Hint, Names, Scalar, Shown, Track, Unexpected};
+use std::alloc::Global;
+use std::marker::PhantomData;
+
+/// A deserializer that shows its text, and to a reader that hopes for an enum a variant of that name
+/// without a payload: serde's `StringDeserializer`. Its errors are of the type `E`.
+#[derive(Drop)]
+pub struct StringDeserializer<E: DeError> {
+    alloc: Global,
+    value: String,
+    error: PhantomData<E>,
+}
+
+/// A variant without a payload.
+#[derive(Drop)]
+pub struct UnitOnly;
+
+/// A sequence without elements. None is shown.
+#[derive(Drop)]
+pub struct NoElements;
+
+/// A map without entries. None is shown.
+#[derive(Drop)]
+pub struct NoEntries<E: DeError> {
+    waiting: Option<StringDeserializer<E>>,
+}
+
+impl<E: DeError> StringDeserializer<E> {
+    /// A deserializer that stands for the text: serde's `StringDeserializer::new`. It keeps the
+    /// allocator for the refusals that it makes itself. Takes no memory.
+    pub fn new(alloc: Global, value: String) -> StringDeserializer<E>
+        ensures { ⟦<StringDeserializer<E> as Deserializer>⟧.source result ≡ text_source (string_bytes value) }
+    {
+        StringDeserializer {
+            alloc,
+            value,
+            error: PhantomData,
+        }
+    }
+}
+
+// It shows no sequence and no map.
+impl<E: DeError> Deserializer for StringDeserializer<E> {
+    type Error = E;
+
+    type Text = String;
+
+    type Bytes = Vec<u8>;
+
+    type Seq = NoElements;
+
+    type Map = NoEntries<E>;
+
+    type Variant = UnitOnly;
+
+    ghost tracks = { false };
+
+    ghost source = { λ d. text_source (string_bytes d.value) };
+
+    ghost sequence = { λ _. record { left = end; taken = 0; checks = false } };
+
+    ghost table = { λ m. record {
+      left = no_entries;
+      taken = 0;
+      waiting = option_map (λ d. text_source (string_bytes d.value)) m.waiting;
+      caught = None;
+      checks = false;
+    } };
+
+    ghost choice = { λ _. record { payload = no_payload; caught = None } };
+
+    fn show(self, hint: Hint<'_>) -> Result<Shown<StringDeserializer<E>>, E> {
+        match hint {
+            Hint::Enum(_, _) => Ok(Shown::Enum(self, UnitOnly)),
+            _ => Ok(Shown::Scalar(Scalar::Text(self.value))),
+        }
+    }
+
+    fn next_element(_seq: &mut NoElements) -> Result<Option<StringDeserializer<E>>, E> {
+        Ok(None)
+    }
+
+    fn leave_element(
+        _seq: &mut NoElements,
+        _held: bool,
+        _failed: bool,
+        _track: &mut Track,
+    ) -> Result<(), E> {
+        Ok(())
+    }
+
+    fn elements_taken(_seq: &NoElements) -> usize {
+        0
+    }
+
+    fn elements_left(_seq: &NoElements) -> Option<usize> {
+        Some(0)
+    }
+
+    fn end_seq(_alloc: Global, _seq: NoElements) -> Result<(), E> {
+        Ok(())
+    }
+
+    fn next_key(map: &mut NoEntries<E>) -> Result<Option<StringDeserializer<E>>, E> {
+        map.waiting = None;
+        Ok(None)
+    }
+
+    fn show_key(
+        _map: &mut NoEntries<E>,
+        key: StringDeserializer<E>,
+        hint: Hint<'_>,
+    ) -> Result<Shown<StringDeserializer<E>>, E> {
+        key.show(hint)
+    }
+
+    fn leave_key(
+        _map: &mut NoEntries<E>,
+        _held: bool,
+        _failed: bool,
+        _track: &mut Track,
+    ) -> Result<(), E> {
+        Ok(())
+    }
+
+    fn next_value(map: &mut NoEntries<E>) -> Result<StringDeserializer<E>, E> {
+        Ok(map.waiting.take().unwrap())
+    }
+
+    fn leave_value(
+        _map: &mut NoEntries<E>,
+        _held: bool,
+        _failed: bool,
+        _track: &mut Track,
+    ) -> Result<(), E> {
+        Ok(())
+    }
+
+    fn entries_left(_map: &NoEntries<E>) -> Option<usize> {
+        Some(0)
+    }
+
+    fn end_map(_alloc: Global, _map: NoEntries<E>) -> Result<(), E> {
+        Ok(())
+    }
+
+    fn show_name(
+        _variant: &mut UnitOnly,
+        name: StringDeserializer<E>,
+        hint: Hint<'_>,
+    ) -> Result<Shown<StringDeserializer<E>>, E> {
+        name.show(hint)
+    }
+
+    fn leave_name(
+        _variant: &mut UnitOnly,
+        _held: bool,
+        _failed: bool,
+        _track: &mut Track,
+    ) -> Result<(), E> {
+        Ok(())
+    }
+
+    fn unit_variant(_alloc: Global, _variant: &mut UnitOnly) -> Result<(), E> {
+        Ok(())
+    }
+
+    fn newtype_variant(alloc: Global, _variant: &mut UnitOnly) -> Result<StringDeserializer<E>, E> {
+        Err(E::invalid_type(alloc, Unexpected::UnitVariant, "newtype variant"))
+    }
+
+    fn tuple_variant(alloc: Global, _variant: &mut UnitOnly, _len: usize) -> Result<NoElements, E> {
+        Err(E::invalid_type(alloc, Unexpected::UnitVariant, "tuple variant"))
+    }
+
+    fn struct_variant(
+        alloc: Global,
+        _variant: &mut UnitOnly,
+        _fields: &Names,
+    ) -> Result<NoEntries<E>, E> {
+        Err(E::invalid_type(alloc, Unexpected::UnitVariant, "struct variant"))
+    }
+
+    fn leave_payload(
+        _variant: &mut UnitOnly,
+        _held: bool,
+        _failed: bool,
+        _track: &mut Track,
+    ) -> Result<(), E> {
+        Ok(())
+    }
+}
+
+impl<E: DeError> IntoDeserializer<E> for String {
+    type Deserializer = StringDeserializer<E>;
+
+    ghost source = { λ s. text_source (string_bytes s) };
+
+    fn into_deserializer(self, alloc: Global) -> StringDeserializer<E> {
+        StringDeserializer::new(alloc, self)
+    }
+}
+
+#[cfg(test)]
+mod tests {
+    use super::*;
+    use crate::error::Error;
+    use data_core::{Fault, Kind, Text};
+    use std::test::Fail;
+
+    type Texts = StringDeserializer<Error>;
+
+    // What the text `on` shows, in words.
+    fn shown(alloc: Global, hint: Hint<'_>) -> Result<String, Fail> {
+        let on = String::from_str(alloc, "on")?;
+        let d: Texts = on.into_deserializer(alloc);
+        match d.show(hint) {
+            Ok(Shown::Scalar(Scalar::Text(text))) => Ok(format!(in alloc; "text {text}")?),
+            Ok(Shown::Enum(name, _variant)) => match name.show(Hint::Identifier) {
+                Ok(Shown::Scalar(Scalar::Text(text))) => Ok(format!(in alloc; "variant {text}")?),
+                _ => Err("no name".into()),
+            },
+            _ => Err("neither a text nor a variant".into()),
+        }
+    }
+
+    #[test]
+    fn a_text_and_a_variant_of_that_name(rt: HostRuntime) -> Result<(), Fail> {
+        let alloc = rt.alloc();
+        let mut names = Names::new(alloc);
+        names
+            .push(Text::new(alloc, "off")?)
+            .ok()
+            .ok_or("no memory")?;
+        let table = [
+            (Hint::Any, "text on"),
+            (Hint::Bool, "text on"),
+            (Hint::String, "text on"),
+            (Hint::Bytes, "text on"),
+            (Hint::Option, "text on"),
+            (Hint::NewtypeStruct("Switch"), "text on"),
+            (Hint::Seq, "text on"),
+            (Hint::Map, "text on"),
+            (Hint::Identifier, "text on"),
+            (Hint::IgnoredAny, "text on"),
+            (Hint::Enum("Switch", &names), "variant on"),
+        ];
+        for (hint, want) in table {
+            assert_eq!(rt; shown(alloc, hint)?.as_str(), want);
+        }
+        Ok(())
+    }
+
+    #[test]
+    fn a_variant_of_no_payload(rt: HostRuntime) -> Result<(), Fail> {
+        let alloc = rt.alloc();
+        let mut variant = UnitOnly;
+        assert!(rt; Texts::unit_variant(alloc, &mut variant).is_ok());
+        let table = [
+            (
+                Texts::newtype_variant(alloc, &mut variant).err(),
+                "invalid type: unit variant, expected newtype variant",
+            ),
+            (
+                Texts::tuple_variant(alloc, &mut variant, 1).err(),
+                "invalid type: unit variant, expected tuple variant",
+            ),
+            (
+                Texts::struct_variant(alloc, &mut variant, &Names::new(alloc)).err(),
+                "invalid type: unit variant, expected struct variant",
+            ),
+        ];
+        for (error, want) in table {
+            let error = error.ok_or("a payload was read")?;
+            assert_eq!(rt; error.to_string(alloc)?.as_str(), want);
+            let cause = error.into_fault();
+            assert!(rt; matches!(cause, Some(Fault::InvalidType(Kind::UnitVariant))));
+        }
+        Ok(())
+    }
+}
