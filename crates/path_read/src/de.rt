@@ -2,10 +2,11 @@
 ghost use Rattle.std.specs.Prelude.{◌≡◌, ◌≢◌, true, OnOk};
 ghost use Rattle.data_core.specs.Show.{shown_offer, Begins};
 ghost use Rattle.data_core.specs.Tracking.{Leaves, marked};
-ghost use Rattle.path_read.specs.Tracked.{inner_of, source_of, sequence_of, table_of};
+ghost use Rattle.path_read.specs.Tracked.{inner_of, source_of, sequence_of, table_of, choice_of};
 
 use crate::map::{TrackedMap, caught_text, segment_of};
-use data_core::{DeError, Hint, Path, Segment, Shown, Track};
+use crate::variant::{TrackedVariant, leave_name, payload_segment};
+use data_core::{DeError, Hint, Names, Path, Segment, Shown, Track};
 use std::alloc::Global;
 
 /// A deserializer that shows what another shows, and notes the path of a refusal in the track that
@@ -38,8 +39,8 @@ fn track_inside<D: data_core::Deserializer>(
     alloc: Global,
     shown: Shown<D>,
 ) -> Shown<Deserializer<D>>
-    ensures offer { shown_offer D.Text.text D.Bytes.bytes (source_of D.source) (sequence_of D.sequence) (table_of D.table) result
-        ≡ shown_offer D.Text.text D.Bytes.bytes D.source D.sequence D.table shown }
+    ensures offer { shown_offer D.Text.text D.Bytes.bytes (source_of D.source) (sequence_of D.sequence) (table_of D.table) (choice_of D.choice) result
+        ≡ shown_offer D.Text.text D.Bytes.bytes D.source D.sequence D.table D.choice shown }
     ensures begins { Begins D.sequence D.table shown → Begins (sequence_of D.sequence) (table_of D.table) result }
 {
     match shown {
@@ -52,6 +53,14 @@ fn track_inside<D: data_core::Deserializer>(
             inner,
             key: None,
         }),
+        Shown::Enum(name, variant) => Shown::Enum(
+            Deserializer { alloc, inner: name },
+            TrackedVariant {
+                alloc,
+                inner: variant,
+                name: None,
+            },
+        ),
     }
 }
 
@@ -93,6 +102,8 @@ impl<D: data_core::Deserializer> data_core::Deserializer for Deserializer<D> {
 
     type Map = TrackedMap<D>;
 
+    type Variant = TrackedVariant<D>;
+
     ghost tracks = { true };
 
     ghost source = { source_of D.source };
@@ -100,6 +111,8 @@ impl<D: data_core::Deserializer> data_core::Deserializer for Deserializer<D> {
     ghost sequence = { sequence_of D.sequence };
 
     ghost table = { table_of D.table };
+
+    ghost choice = { choice_of D.choice };
 
     fn show(self, hint: Hint<'_>) -> Result<Shown<Deserializer<D>>, D::Error> {
         let alloc = self.alloc;
@@ -156,11 +169,9 @@ impl<D: data_core::Deserializer> data_core::Deserializer for Deserializer<D> {
         // What shows no text, or fails, leaves none of an earlier key.
         drop(map.key.take());
         let shown = D::show_key(&mut map.inner, key.inner, hint)?;
-        if let Shown::Scalar(scalar) = &shown {
-            match caught_text(alloc, scalar) {
-                Ok(text) => map.key = text,
-                Err(_) => return Err(D::Error::memory()),
-            }
+        match caught_text(alloc, &shown) {
+            Ok(text) => map.key = text,
+            Err(_) => return Err(D::Error::memory()),
         }
         Ok(track_inside(alloc, shown))
     }
@@ -205,5 +216,80 @@ impl<D: data_core::Deserializer> data_core::Deserializer for Deserializer<D> {
 
     fn end_map(alloc: Global, map: TrackedMap<D>) -> Result<(), D::Error> {
         D::end_map(alloc, map.inner)
+    }
+
+    fn show_name(
+        variant: &mut TrackedVariant<D>,
+        name: Deserializer<D>,
+        hint: Hint<'_>,
+    ) -> Result<Shown<Deserializer<D>>, D::Error> {
+        let alloc = variant.alloc;
+        // A name that shows no text, or fails, leaves none.
+        variant.name = None;
+        let shown = D::show_name(&mut variant.inner, name.inner, hint)?;
+        match caught_text(alloc, &shown) {
+            Ok(text) => variant.name = text,
+            Err(_) => return Err(D::Error::memory()),
+        }
+        Ok(track_inside(alloc, shown))
+    }
+
+    fn leave_name(
+        variant: &mut TrackedVariant<D>,
+        held: bool,
+        failed: bool,
+        track: &mut Track,
+    ) -> Result<(), D::Error> {
+        leave_name(variant.alloc, held, failed, track)
+    }
+
+    fn unit_variant(alloc: Global, variant: &mut TrackedVariant<D>) -> Result<(), D::Error> {
+        D::unit_variant(alloc, &mut variant.inner)
+    }
+
+    fn newtype_variant(
+        alloc: Global,
+        variant: &mut TrackedVariant<D>,
+    ) -> Result<Deserializer<D>, D::Error> {
+        let inner = D::newtype_variant(alloc, &mut variant.inner)?;
+        Ok(Deserializer {
+            alloc: variant.alloc,
+            inner,
+        })
+    }
+
+    fn tuple_variant(
+        alloc: Global,
+        variant: &mut TrackedVariant<D>,
+        len: usize,
+    ) -> Result<TrackedSeq<D>, D::Error> {
+        let inner = D::tuple_variant(alloc, &mut variant.inner, len)?;
+        Ok(TrackedSeq {
+            alloc: variant.alloc,
+            inner,
+        })
+    }
+
+    fn struct_variant(
+        alloc: Global,
+        variant: &mut TrackedVariant<D>,
+        fields: &Names,
+    ) -> Result<TrackedMap<D>, D::Error> {
+        let inner = D::struct_variant(alloc, &mut variant.inner, fields)?;
+        Ok(TrackedMap {
+            alloc: variant.alloc,
+            inner,
+            key: None,
+        })
+    }
+
+    fn leave_payload(
+        variant: &mut TrackedVariant<D>,
+        held: bool,
+        failed: bool,
+        track: &mut Track,
+    ) -> Result<(), D::Error> {
+        let segment = payload_segment(variant.name.take());
+        leave(variant.alloc, segment, held, failed, track)
     }
 }

@@ -1,9 +1,9 @@
 //! Maps that are tracked, and the texts of their keys.
 ghost use Rattle.std.specs.Prelude.{◌≡◌, IfOk};
-ghost use Rattle.data_core.specs.Show.{scalar_view};
-ghost use Rattle.data_core.specs.Table.{entry_segment, text_of_scalar};
+ghost use Rattle.data_core.specs.Show.{scalar_view, shown_offer};
+ghost use Rattle.data_core.specs.Table.{entry_segment, text_of, text_of_scalar};
 
-use data_core::{BytesLike, Scalar, Segment, Text, TextLike};
+use data_core::{BytesLike, Scalar, Segment, Shown, Text, TextLike};
 use itoa::{Buffer, Integer};
 use std::alloc::{AllocError, Global};
 
@@ -16,12 +16,26 @@ pub struct TrackedMap<D: data_core::Deserializer> {
     pub(crate) key: Option<Text>,
 }
 
-// What a path keeps of a key: an integer's digits, true or false, or a copy of a text.
-pub(crate) fn caught_text<T: TextLike, B: BytesLike>(
+// The text of what a key or the name of a variant shows, where a path can name it.
+pub(crate) fn caught_text<D: data_core::Deserializer>(
+    alloc: Global,
+    shown: &Shown<D>,
+) -> Result<Option<Text>, AllocError>
+    ensures { IfOk result (λ text. text
+        ≡ text_of (shown_offer D.Text.text D.Bytes.bytes D.source D.sequence D.table D.choice shown.now)) }
+{
+    match shown {
+        Shown::Scalar(scalar) => scalar_text(alloc, scalar),
+        _ => Ok(None),
+    }
+}
+
+// What a path keeps of a scalar: an integer's digits, true or false, or a copy of a text.
+fn scalar_text<T: TextLike, B: BytesLike>(
     alloc: Global,
     scalar: &Scalar<T, B>,
 ) -> Result<Option<Text>, AllocError>
-    ensures { IfOk result (λ key. key ≡ text_of_scalar (scalar_view T.text B.bytes scalar.now)) }
+    ensures { IfOk result (λ text. text ≡ text_of_scalar (scalar_view T.text B.bytes scalar.now)) }
 {
     let text = match scalar {
         Scalar::Bool(true) => Text::new(alloc, "true"),
@@ -100,7 +114,7 @@ mod tests {
             (Scalar::Unit, None),
         ];
         for (scalar, want) in scalars {
-            let text = caught_text(rt.alloc(), &scalar)?;
+            let text = scalar_text(rt.alloc(), &scalar)?;
             assert!(rt; text.as_ref().map(Text::as_str) == want);
         }
         Ok(())
