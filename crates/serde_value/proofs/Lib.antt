@@ -5,3 +5,5 @@ pub mod Edits
 pub mod Readings
 pub mod Captures
 pub mod Shown
+pub mod Variants
+pub mod OneRefusal

@@ -1,17 +1,16 @@
 -- The trees that are captured of a source: what each offers is what the source does. The width of an
 -- integer is the deserializer's choice, which a source does not tell.
 use Rattle.std.specs.Prelude.{◌≡◌, ◌⊎◌, ℕ, ◌+◌, max, List, [], ◌∷◌, Option, Some, None}
-use Rattle.data_core.specs.declared.path.Segment.{Segment}
 use Rattle.data_core.specs.declared.path.Segment.TheVariants.{Seq}
 use Rattle.data_core.specs.Ask.{any}
-use Rattle.data_core.specs.Source.{Source, source, Offer, Scalar, wide, scalar, some_itself, elements, newtype_itself, newtype_struct, entries, Sources, end, more, Entries, no_entries, entry}
+use Rattle.data_core.specs.Source.{Source, source, Offer, Scalar, wide, scalar, some_itself, elements, newtype_itself, newtype_struct, entries, variant_itself, variant, Sources, end, more, Entries, no_entries, entry}
 use Rattle.data_core.specs.Source as offer
 use Rattle.data_core.specs.Table.{segment_of_key}
 use Rattle.data_core.specs.Node.{Node, some, newtype, seq, nodes_of, plain}
 use Rattle.data_core.specs.Order.{node_order}
-use Rattle.data_core.specs.Outcome.{Outcome, given, refused, not_taken}
+use Rattle.data_core.specs.Outcome.{Outcome, given, refused, IsUnder, not_taken}
 use Rattle.data_core.specs.Pairs.{put_all}
-use Rattle.data_std.specs.Reads.{Under, AtKey, AndThen}
+use Rattle.data_std.specs.Reads.{AtKey, AndThen}
 use Rattle.serde_value.specs.View.{node_view, map_node}
 use Rattle.serde_value.specs.declared.value.Value.{Value}
 
@@ -37,20 +36,22 @@ abbrev mutual
   CapturesOffer newtype_itself outcome = ⊥
   CapturesOffer (newtype_struct s) outcome = AndThen (λ o. Captures s o) (λ n o. o ≡ given (newtype n)) outcome
   CapturesOffer (entries checks es) outcome = AndThen (λ o. CapturesPairs es o) (λ ps o. o ≡ given (map_node (put_all node_order [] ps))) outcome
+  CapturesOffer (variant_itself payload) outcome = ⊥
+  CapturesOffer (variant name payload) outcome = outcome ≡ not_taken (variant name payload)
   CapturesOffer (offer.refused f) outcome = outcome ≡ refused f []
 
   -- each element in turn, from a place in the sequence on, up to the first fault
   pub CapturesAll : ℕ → Sources → Outcome (List Node) → Type 0
   CapturesAll i end outcome = outcome ≡ given []
   CapturesAll i (more s ss) outcome =
-      AndThen (Under (Seq i) (λ o. Captures s o)) (λ n. AndThen (λ o. CapturesAll (i + 1) ss o) (λ ns o. o ≡ given (n ∷ ns))) outcome
+      AndThen (IsUnder (Seq i) (λ o. Captures s o)) (λ n. AndThen (λ o. CapturesAll (i + 1) ss o) (λ ns o. o ≡ given (n ∷ ns))) outcome
 
   -- each entry in turn, its key and then its value, up to the first fault
   pub CapturesPairs : Entries → Outcome (List (Node × Node)) → Type 0
   CapturesPairs no_entries outcome = outcome ≡ given []
   CapturesPairs (entry k v es) outcome =
       AndThen (AtKey (segment_of_key any k) (λ o. Captures k o))
-      (λ a. AndThen (Under (segment_of_key any k) (λ o. Captures v o)) (λ b. AndThen (λ o. CapturesPairs es o) (λ ps o. o ≡ given (pair_before a b ps)))) outcome
+      (λ a. AndThen (IsUnder (segment_of_key any k) (λ o. Captures v o)) (λ b. AndThen (λ o. CapturesPairs es o) (λ ps o. o ≡ given (pair_before a b ps)))) outcome
 
 -- the entries that are left, as the pairs of a map
 abbrev pub CapturesTable : Entries → Outcome (List (Node × Node)) → Type 0
@@ -63,7 +64,7 @@ NextPair (entry k v es) (given None) = ⊥
 NextPair (entry k v es) (given (Some p)) = Captures k (given (node_view p.0)) × Captures v (given (node_view p.1))
 NextPair (entry k v es) (refused f path) =
     AtKey (segment_of_key any k) (λ o. Captures k o) (refused f path)
-    ⊎ ((n : Node) × Captures k (given n) × Under (segment_of_key any k) (λ o. Captures v o) (refused f path))
+    ⊎ ((n : Node) × Captures k (given n) × IsUnder (segment_of_key any k) (λ o. Captures v o) (refused f path))
 
 -- what was handed out, seen through a view
 abbrev pub seen : {A B : Type 0} → (B → A) → Outcome B → Outcome A
@@ -83,6 +84,8 @@ abbrev mutual
   depth_of_offer newtype_itself = 0
   depth_of_offer (newtype_struct s) = depth s
   depth_of_offer (entries checks es) = depth_of_entries es
+  depth_of_offer (variant_itself payload) = 0
+  depth_of_offer (variant name payload) = 0
   depth_of_offer (offer.refused f) = 0
 
   pub depth_of_all : Sources → ℕ

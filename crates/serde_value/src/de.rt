@@ -1,15 +1,18 @@
 //! Deserializers over trees.
-ghost use Rattle.std.specs.Prelude.{◌≡◌, ◌+◌, ◌^◌, true, false, Some, None, IsOk, IsSome, OnErr, OnOk, string_bytes};
-ghost use Rattle.data_core.specs.Node.{of_node, of_nodes, of_pairs, nodes_of, pairs_of, plain, wrapped, inside};
-ghost use Rattle.data_core.specs.Source.{count, count_entries, resolved};
+ghost use Rattle.std.specs.Prelude.{◌≡◌, ◌+◌, ◌^◌, true, false, Some, None, IsOk, IsSome, OnErr, OnOk};
+ghost use Rattle.data_core.specs.Fault.{IsCalled};
+ghost use Rattle.data_core.specs.Node.{of_nodes, of_pairs, nodes_of, pairs_of, plain};
+ghost use Rattle.data_core.specs.Refused.{fault_of};
+ghost use Rattle.data_core.specs.Source.{count, count_entries};
 ghost use Rattle.data_core.specs.Sequence.{Takes, Ends, surplus};
-ghost use Rattle.data_core.specs.Table.{TakesKey, TakesValue, value_taken};
-ghost use Rattle.data_core.specs.Show.{shown_offer, Begins};
+ghost use Rattle.data_core.specs.Table.{TakesKey, TakesValue, value_taken, surplus_entries};
 ghost use Rattle.serde_value.specs.View.{node_view};
-ghost use Rattle.serde_value.specs.Deserializer.{value_of, source_of, sequence_of, table_of};
+ghost use Rattle.serde_value.specs.Deserializer.{value_of, source_of, sequence_of, table_of, choice_of};
 
-use crate::value::{Held, Items, Value, ValueMap};
-use data_core::{DeError, Deserializer, Hint, Scalar, Shown, Track};
+use crate::show::{show_enum, show_newtype, show_option, show_plain};
+use crate::value::{Items, Value, ValueMap};
+use crate::variant::ValueVariant;
+use data_core::{DeError, Deserializer, Fault, Hint, Names, Shown, Track, Unexpected};
 use std::alloc::Global;
 use std::marker::PhantomData;
 use std::vec::IntoIter;
@@ -55,7 +58,7 @@ pub struct ValueElements<E: DeError> {
 
 impl<E: DeError> ValueElements<E> {
     // A whole sequence, of which none was taken.
-    fn new(alloc: Global, items: Items) -> ValueElements<E>
+    pub(crate) fn new(alloc: Global, items: Items) -> ValueElements<E>
         ensures left { (sequence_of result).left ≡ of_nodes (nodes_of items) }
         ensures taken { (sequence_of result).taken ≡ 0 }
     {
@@ -68,99 +71,34 @@ impl<E: DeError> ValueElements<E> {
     }
 }
 
-/// The entries of a map that are left, the value whose key was taken last, and how many keys were
-/// taken: serde's `MapDeserializer` over trees. They are taken by rising key, and none is copied.
-/// Dropping deep trees recurses.
+/// The entries of a map that are left, the value whose key was taken last, how many keys were taken,
+/// and whether the end is checked: serde's `MapDeserializer` over trees. They are taken by rising key,
+/// and none is copied. Dropping deep trees recurses.
 #[derive(Drop)]
 pub struct ValueEntries<E: DeError> {
     alloc: Global,
     rest: IntoIter<(Value, Value)>,
     waiting: Option<Value>,
     taken: usize,
+    checks: bool,
     error: PhantomData<E>,
 }
 
 impl<E: DeError> ValueEntries<E> {
     // A whole map, of which none was taken.
-    fn new(alloc: Global, map: ValueMap) -> ValueEntries<E>
+    pub(crate) fn new(alloc: Global, map: ValueMap, checks: bool) -> ValueEntries<E>
         ensures left { (table_of result).left ≡ of_pairs (pairs_of map) }
         ensures taken { (table_of result).taken ≡ 0 }
+        ensures checks { (table_of result).checks ≡ checks }
     {
         ValueEntries {
             alloc,
             rest: map.into_vec().into_iter(),
             waiting: None,
             taken: 0,
+            checks,
             error: PhantomData,
         }
-    }
-}
-
-// A tree as it is.
-fn show_plain<E: DeError>(alloc: Global, value: Value) -> Shown<ValueDeserializer<E>>
-    ensures offer { shown_offer string_bytes (λ b. b.items) source_of sequence_of table_of result
-        ≡ plain (node_view value) }
-    ensures begins { Begins sequence_of table_of result }
-{
-    match value {
-        Value::Bool(b) => Shown::Scalar(Scalar::Bool(b)),
-        Value::U8(n) => Shown::Scalar(Scalar::U8(n)),
-        Value::U16(n) => Shown::Scalar(Scalar::U16(n)),
-        Value::U32(n) => Shown::Scalar(Scalar::U32(n)),
-        Value::U64(n) => Shown::Scalar(Scalar::U64(n)),
-        Value::I8(n) => Shown::Scalar(Scalar::I8(n)),
-        Value::I16(n) => Shown::Scalar(Scalar::I16(n)),
-        Value::I32(n) => Shown::Scalar(Scalar::I32(n)),
-        Value::I64(n) => Shown::Scalar(Scalar::I64(n)),
-        Value::Char(c) => Shown::Scalar(Scalar::Char(c)),
-        Value::String(text) => Shown::Scalar(Scalar::Text(text)),
-        Value::Unit => Shown::Scalar(Scalar::Unit),
-        Value::Option(held) => show_held(alloc, held),
-        Value::Newtype(held) => {
-            Shown::NewtypeStruct(ValueDeserializer::new(alloc, held.into_inner()))
-        }
-        Value::Seq(items) => Shown::Seq(ValueElements::new(alloc, items)),
-        Value::Map(map) => Shown::Map(ValueEntries::new(alloc, map)),
-        Value::Bytes(bytes) => Shown::Scalar(Scalar::Bytes(bytes)),
-    }
-}
-
-// A tree as an option: nothing and a unit are nothing, and any other tree is a value of itself.
-fn show_option<E: DeError>(alloc: Global, value: Value) -> Shown<ValueDeserializer<E>>
-    ensures offer { shown_offer string_bytes (λ b. b.items) source_of sequence_of table_of result
-        ≡ resolved (of_node (node_view value)) (wrapped (node_view value)) }
-    ensures begins { Begins sequence_of table_of result }
-{
-    match value {
-        Value::Unit => Shown::Scalar(Scalar::Unit),
-        Value::Option(held) => show_held(alloc, held),
-        other => Shown::Some(ValueDeserializer::new(alloc, other)),
-    }
-}
-
-// A tree as a newtype: a newtype is what it holds, and any other tree holds itself.
-fn show_newtype<E: DeError>(alloc: Global, value: Value) -> Shown<ValueDeserializer<E>>
-    ensures offer { shown_offer string_bytes (λ b. b.items) source_of sequence_of table_of result
-        ≡ resolved (of_node (node_view value)) (inside (node_view value)) }
-    ensures begins { Begins sequence_of table_of result }
-{
-    match value {
-        Value::Newtype(held) => {
-            Shown::NewtypeStruct(ValueDeserializer::new(alloc, held.into_inner()))
-        }
-        other => Shown::NewtypeStruct(ValueDeserializer::new(alloc, other)),
-    }
-}
-
-// An option, and what it holds.
-fn show_held<E: DeError>(alloc: Global, held: Option<Held>) -> Shown<ValueDeserializer<E>>
-    ensures offer { shown_offer string_bytes (λ b. b.items) source_of sequence_of table_of result
-        ≡ plain (node_view (Value.Option held)) }
-    ensures begins { Begins sequence_of table_of result }
-{
-    match held {
-        Some(held) => Shown::Some(ValueDeserializer::new(alloc, held.into_inner())),
-        None => Shown::Scalar(Scalar::None),
     }
 }
 
@@ -175,6 +113,8 @@ impl<E: DeError> Deserializer for ValueDeserializer<E> {
 
     type Map = ValueEntries<E>;
 
+    type Variant = ValueVariant<E>;
+
     ghost tracks = { false };
 
     ghost source = { source_of };
@@ -182,6 +122,8 @@ impl<E: DeError> Deserializer for ValueDeserializer<E> {
     ghost sequence = { sequence_of };
 
     ghost table = { table_of };
+
+    ghost choice = { choice_of };
 
     fn show(self, hint: Hint<'_>) -> Result<Shown<ValueDeserializer<E>>, E> {
         match hint {
@@ -191,6 +133,7 @@ impl<E: DeError> Deserializer for ValueDeserializer<E> {
             )),
             Hint::Option => Ok(show_option(self.alloc, self.value)),
             Hint::NewtypeStruct(_) => Ok(show_newtype(self.alloc, self.value)),
+            Hint::Enum(_, _) => show_enum(self.alloc, self.value),
             _ => Ok(show_plain(self.alloc, self.value)),
         }
     }
@@ -238,17 +181,12 @@ impl<E: DeError> Deserializer for ValueDeserializer<E> {
         if left == 0 {
             return Ok(());
         }
-        let Some(all) = seq.taken.checked_add(left) else {
-            return Err(E::memory());
-        };
-        match format!(in alloc; "{}", seq.taken) {
-            Ok(taken) => Err(E::invalid_length(alloc, all, taken.as_str())),
-            Err(_) => Err(E::memory()),
-        }
+        Err(refused_rest(alloc, seq.taken, left))
     }
 
     fn next_key(map: &mut ValueEntries<E>) -> Result<Option<ValueDeserializer<E>>, E>
         ensures takes { TakesKey source_of E.fault result (table_of map.old) (table_of map.new) }
+        ensures checks { (table_of map.new).checks ≡ (table_of map.old).checks }
         ensures full { OnErr result ((table_of map.old).taken + 1 ≡ 2 ^ 64) }
     {
         map.waiting = None;
@@ -308,10 +246,113 @@ impl<E: DeError> Deserializer for ValueDeserializer<E> {
         Some(map.rest.len())
     }
 
-    fn end_map(_alloc: Global, _map: ValueEntries<E>) -> Result<(), E>
-        ensures { IsOk result }
+    #[tactic(auto, using(crate::proofs::Elements::count_of_pairs, crate::proofs::Elements::surplus_of_pairs))]
+    fn end_map(alloc: Global, map: ValueEntries<E>) -> Result<(), E>
+        ensures ends { Ends E.fault result
+            (surplus_entries (table_of map).checks (table_of map).taken (table_of map).left) }
+        ensures whole { count_entries (table_of map).left ≡ 0 → IsOk result }
+        ensures passed_over { (table_of map).checks ≡ false → IsOk result }
     {
+        let left = map.rest.len();
+        if !map.checks || left == 0 {
+            return Ok(());
+        }
+        Err(refused_rest(alloc, map.taken, left))
+    }
+
+    fn show_name(
+        _variant: &mut ValueVariant<E>,
+        name: ValueDeserializer<E>,
+        hint: Hint<'_>,
+    ) -> Result<Shown<ValueDeserializer<E>>, E> {
+        name.show(hint)
+    }
+
+    fn leave_name(
+        _variant: &mut ValueVariant<E>,
+        _held: bool,
+        _failed: bool,
+        _track: &mut Track,
+    ) -> Result<(), E> {
         Ok(())
+    }
+
+    fn unit_variant(alloc: Global, variant: &mut ValueVariant<E>) -> Result<(), E> {
+        match variant.payload.take() {
+            None | Some(Value::Unit) => Ok(()),
+            Some(other) => Err(refused_unit(alloc, other)),
+        }
+    }
+
+    #[tactic(auto, using(crate::proofs::Variants::newtype_of_payload))]
+    fn newtype_variant(
+        alloc: Global,
+        variant: &mut ValueVariant<E>,
+    ) -> Result<ValueDeserializer<E>, E> {
+        match variant.payload.take() {
+            Some(value) => Ok(ValueDeserializer::new(alloc, value)),
+            None => Err(E::invalid_type(alloc, Unexpected::UnitVariant, "newtype variant")),
+        }
+    }
+
+    fn tuple_variant(
+        alloc: Global,
+        variant: &mut ValueVariant<E>,
+        _len: usize,
+    ) -> Result<ValueElements<E>, E> {
+        match variant.payload.take() {
+            Some(Value::Seq(items)) => Ok(ValueElements::new(alloc, items)),
+            Some(other) => Err(E::invalid_type(alloc, other.unexpected(), "tuple variant")),
+            None => Err(E::invalid_type(alloc, Unexpected::UnitVariant, "tuple variant")),
+        }
+    }
+
+    fn struct_variant(
+        alloc: Global,
+        variant: &mut ValueVariant<E>,
+        _fields: &Names,
+    ) -> Result<ValueEntries<E>, E> {
+        match variant.payload.take() {
+            Some(Value::Map(map)) => Ok(ValueEntries::new(alloc, map, true)),
+            Some(other) => Err(E::invalid_type(alloc, other.unexpected(), "struct variant")),
+            None => Err(E::invalid_type(alloc, Unexpected::UnitVariant, "struct variant")),
+        }
+    }
+
+    fn leave_payload(
+        _variant: &mut ValueVariant<E>,
+        _held: bool,
+        _failed: bool,
+        _track: &mut Track,
+    ) -> Result<(), E> {
+        Ok(())
+    }
+}
+
+// The refusal of a tree that is to be a unit. A character is seen as its text.
+fn refused_unit<E: DeError>(alloc: Global, value: Value) -> E
+    ensures { IsCalled (E.fault result) (fault_of (plain (node_view value))) }
+{
+    match value {
+        Value::Char(c) => {
+            let mut room = [0u8; 4];
+            let text = c.encode_utf8(&mut room);
+            E::invalid_type(alloc, Unexpected::Str(text), "unit")
+        }
+        other => E::invalid_type(alloc, other.unexpected(), "unit"),
+    }
+}
+
+// The refusal of a reader that took so many parts, and left so many.
+fn refused_rest<E: DeError>(alloc: Global, taken: usize, left: usize) -> E
+    ensures { IsCalled (E.fault result) (Fault.InvalidLength (taken + left)) }
+{
+    let Some(all) = taken.checked_add(left) else {
+        return E::memory();
+    };
+    match format!(in alloc; "{taken}") {
+        Ok(taken) => E::invalid_length(alloc, all, taken.as_str()),
+        Err(_) => E::memory(),
     }
 }
 
@@ -319,6 +360,8 @@ impl<E: DeError> Deserializer for ValueDeserializer<E> {
 mod tests {
     use super::*;
     use crate::error::DeserializerError;
+    use crate::value::Held;
+    use data_core::Scalar;
     use std::alloc::AllocError;
     use std::test::Fail;
 
@@ -427,6 +470,7 @@ mod tests {
                 Some(left) => format!(in alloc; "{left} entries"),
                 None => String::from_str(alloc, "some entries"),
             },
+            Shown::Enum(_, _) => String::from_str(alloc, "a variant"),
         }
     }
 

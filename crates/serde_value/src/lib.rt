@@ -12,11 +12,13 @@ mod map;
 mod map_iter;
 mod order;
 mod reading;
+mod show;
 #[cfg(test)]
 mod tests;
 mod traits;
 mod unexpected;
 mod value;
+mod variant;
 mod visitor;
 
 pub use de::{ValueDeserializer, ValueElements, ValueEntries};
@@ -25,4 +27,5 @@ pub use map::Unplaced;
 pub use map_iter::ValueMapIter;
 pub use unexpected::Unexpected;
 pub use value::{Held, Items, Value, ValueMap};
+pub use variant::ValueVariant;
 pub use visitor::ValueVisitor;

@@ -81,7 +81,7 @@ fn take_shown<D: Deserializer>(
 ) -> Result<Value, D::Error>
     requires { Begins D.sequence D.table shown }
     ensures { Among D.Error.fault D.tracks result
-        (λ o. CapturesOffer (shown_offer D.Text.text D.Bytes.bytes D.source D.sequence D.table shown) (seen node_view o)) track.old track.new }
+        (λ o. CapturesOffer (shown_offer D.Text.text D.Bytes.bytes D.source D.sequence D.table D.choice shown) (seen node_view o)) track.old track.new }
 {
     match shown {
         Shown::Scalar(scalar) => take_scalar::<D>(alloc, scalar),
@@ -89,6 +89,9 @@ fn take_shown<D: Deserializer>(
         Shown::NewtypeStruct(d) => Ok(Value::Newtype(take_held(alloc, d, track)?)),
         Shown::Seq(seq) => Ok(Value::Seq(take_items::<D>(alloc, seq, track)?)),
         Shown::Map(map) => Ok(Value::Map(take_map::<D>(alloc, map, track)?)),
+        Shown::Enum(name, variant) => {
+            Err(refused::<D>(alloc, Shown::Enum(name, variant), "any value"))
+        }
     }
 }
 

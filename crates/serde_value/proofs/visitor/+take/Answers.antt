@@ -10,7 +10,7 @@ use Rattle.data_core.specs.Order.{node_order}
 use Rattle.data_core.specs.Outcome.{given, refused}
 use Rattle.data_core.specs.Pairs.{put}
 use Rattle.data_core.specs.Tracking.{left, left_key}
-use Rattle.data_core.proofs.Relations.{RefusedAmong-next, RefusedAmong-key, Among-value}
+use Rattle.data_core.proofs.Relations.{RefusedAmong-next, RefusedAmong-key, Among-under}
 use Rattle.data_std.proofs.Elements.{RefusedAmong-whole, after_more, after_end}
 use Rattle.serde_value.specs.Captured.{CapturesAll, CapturesTable, NextPair}
 use Rattle.serde_value.specs.View.{node_view, pair_view}
@@ -90,7 +90,8 @@ take_value-returns-clause-reads g t c segment same =
     let de = g.D.Deserializer in
     let own = entry_segment (de.table c.args.map.now).caught in
     let on_way_out : c.leave_value.new.track ≡ left de.tracks own c.holds-held.result (is_err c.take-value.result) c.take-value.new.track = search rules in
-    Among-value g.D.Error.DeError.fault de.tracks c.holds-held.result reads own segment (de.table c.args.map.now).waiting (de.source c.in_ok-value.value) c.take-value.result c.args.track.now c.take-value.new.track c.leave_value.new.track c.in_ok-value.ensures.takes c.holds-held.ensures same c.take-value.ensures on_way_out
+    rw c.in_ok-value.ensures.takes
+    (Among-under g.D.Error.DeError.fault de.tracks c.holds-held.result (reads (de.source c.in_ok-value.value)) own segment c.take-value.result c.args.track.now c.take-value.new.track c.leave_value.new.track c.holds-held.ensures same c.take-value.ensures on_way_out)
 
 pub take_entry-returns-in_err-value-clause-reads :
     goal.take_entry-returns-in_err-value-clause-reads

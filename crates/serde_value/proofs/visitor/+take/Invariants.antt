@@ -39,7 +39,7 @@ decreases-take_map g l = 7 * depth_of_entries (g.D.Deserializer.table l.map).lef
 abbrev pub decreases-take_shown : goal.decreases-take_shown
 decreases-take_shown g l =
     let de = g.D.Deserializer in
-    7 * depth_of_offer (shown_offer g.D.Text.TextLike.text g.D.Bytes.BytesLike.bytes de.source de.sequence de.table l.shown) + 4
+    7 * depth_of_offer (shown_offer g.D.Text.TextLike.text g.D.Bytes.BytesLike.bytes de.source de.sequence de.table de.choice l.shown) + 4
 
 abbrev pub invariant-take_items-elements : goal.invariant-take_items-elements
 invariant-take_items-elements g l =

@@ -6,7 +6,6 @@ use Rattle.serde_value.specs.View.{node_view}
 use Rattle.serde_value.proofs.Readings.{reads_among}
 use Rattle.serde_value.proofs.value.Value.deserialize_into.Goals as goal
 use Rattle.std.proofs.Common.{false}
-use Rattle.data_core.specs.Tracking.{Refusal}
 
 pub returns : goal.returns
 returns g c =
