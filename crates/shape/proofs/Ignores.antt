@@ -1,11 +1,11 @@
 -- A value that was read as what is ignored, under its entry's segment.
-use Rattle.std.proofs.Common.{◌≡◌, Bool, true, List, [], ◌∷◌, Option, Some, None, refl}
+use Rattle.std.proofs.Common.{◌≡◌, Bool, Option, Some, None, refl}
 use Rattle.data_core.specs.declared.fault.Fault.{Fault}
 use Rattle.data_core.specs.declared.path.Segment.{Segment}
 use Rattle.data_core.specs.Ask.{ignored_any}
 use Rattle.data_core.specs.Source.{Source, source, offer_of}
-use Rattle.data_core.specs.Tracking.{Refusal, clear, HoldsPath}
-use Rattle.data_core.specs.Outcome.{Outcome, given, refused, under, IsRefused, RefusedAmong}
+use Rattle.data_core.specs.Tracking.{Refusal}
+use Rattle.data_core.specs.Outcome.{Outcome, given, under, IsRefused, RefusedAmong}
 use Rattle.data_core.specs.Table.{IsValue}
 use Rattle.data_std.specs.Ignored.{ignored, ignored_offer}
 use Rattle.data_std.specs.Reads.{IsOutcome}

@@ -1,3 +1,4 @@
+pub mod Chosen
 pub mod Depths
 pub mod Edits
 pub mod Ignores

@@ -1,10 +1,11 @@
--- The fields of a struct and their slots, place by place.
-use Rattle.std.proofs.Common.{◌≡◌, ◌≢◌, ◌∙◌, ℕ, zero, suc, ◌+◌, ◌<◌, ◌≤◌, min, Bool, true, false, List, [], ◌∷◌, ◌++◌, add-one, length, get_or, slice_get, take, drop, set, map, is_some, replicate, Option, Some, None, Result, Ok, Err, IfSome, IfOk, option_map, if◌then◌else◌, bytes_eq, Contains, ap, sym, refl, subst, arith}
-use Rattle.std.proofs.lemmas.List.{take_all, map-set}
+-- The fields of a struct, their slots, and the variants of an enum, place by place.
+use Rattle.std.proofs.Common.{◌≡◌, ℕ, zero, suc, ◌+◌, ◌<◌, ◌≤◌, min, Bool, true, false, List, [], ◌∷◌, ◌++◌, add-one, length, get_or, slice_get, take, drop, set, map, is_some, replicate, Option, Some, None, Result, Ok, Err, IfSome, IfOk, option_map, if◌then◌else◌, bytes_eq, Contains, ap, sym, refl, arith}
+use Rattle.std.proofs.lemmas.List.{take_all, map-set, length-map}
 use Rattle.std.proofs.lemmas.Slice.Eq.{bytes_eq-Decides}
 use Rattle.data_core.specs.declared.fault.Fault.{Fault}
 use Rattle.data_core.specs.declared.fault.Fault.TheVariants.{MissingField, DuplicateField}
 use Rattle.data_core.specs.Fault.{IsCalled}
+use Rattle.data_core.specs.Wanted.{Wanted}
 use Rattle.data_core.specs.Source.{Source, Offer, scalar}
 use Rattle.data_core.specs.Source as offer
 use Rattle.data_core.specs.Tracking.{Refusal}
@@ -12,11 +13,13 @@ use Rattle.data_core.specs.Outcome.{Outcome, given, refused, under, and_then, An
 use Rattle.data_core.proofs.Refusals.{IsRefused-whole, IsRefused-here, Carries-and_then}
 use Rattle.data_core.specs.declared.path.Segment.{Segment}
 use Rattle.shape.specs.Shape as spec
-use Rattle.shape.specs.First.{first}
-use Rattle.shape.specs.Fields.{Field, is_option, place_of, put_field, known, place_of_key, filled, completed}
+use Rattle.shape.specs.First.{first, visited_payload}
+use Rattle.shape.specs.Variants.{Variant, place_of_variant, known_variant, variant_place}
+use Rattle.shape.specs.Fields.{Field, is_option, place_in, place_of, put_field, known, place_of_key, filled, completed}
 use Rattle.shape.specs.declared.data.Data as code
 use Rattle.shape.specs.declared.shapes.Shape.{Shape}
-use Rattle.shape.specs.View.{shape_view, data_view, fields_at, slot_view}
+use Rattle.shape.specs.declared.shapes.VariantShape.{VariantShape}
+use Rattle.shape.specs.View.{shape_view, variant_shape_view, data_view, fields_at, variants_at, slot_view}
 use Rattle.shape.proofs.Steps.{front, front_push}
 
 -- a name with its shape
@@ -57,39 +60,55 @@ head_differs n t names none = not_true (bytes_eq n t) (λ e. none (0, omega arit
 not_in_tail : (n t : List ℕ) (names : List (List ℕ)) → ¬ Contains (n ∷ names) t → ¬ Contains names t
 not_in_tail n t names none c = none (suc c.0, omega (arith, c.1), c.2)
 
-pub place_found : (t : List ℕ) (names : List (List ℕ)) (shapes : List Shape) (i : ℕ) → slice_get names i ≡ Some t → ¬ Contains (take i names) t → i < length shapes
-    → Some i ≡ place_of t (fields_at names shapes)
-place_found t [] shapes i e none h = cc
-place_found t (n ∷ names) [] i e none h = absurd (omega arith)
-place_found t (n ∷ names) (a ∷ shapes) zero e none h =
+pub place_found : (t : List ℕ) (names : List (List ℕ)) (count i : ℕ) → slice_get names i ≡ Some t → ¬ Contains (take i names) t → i < count
+    → Some i ≡ place_in t (take count names)
+place_found t [] count i e none h = cc
+place_found t (n ∷ names) zero i e none h = absurd (omega arith)
+place_found t (n ∷ names) (suc count) zero e none h =
     let same : n ≡ t = cc in
     rw ((bytes_eq-Decides n t).1 same) refl
-place_found t (n ∷ names) (a ∷ shapes) (suc i) e none h =
-    let rest = place_found t names shapes i e (not_in_tail n t (take i names) none) (omega arith) in
+place_found t (n ∷ names) (suc count) (suc i) e none h =
+    let rest = place_found t names count i e (not_in_tail n t (take i names) none) (omega arith) in
     rw (head_differs n t (take i names) none, ← rest) refl
 
-pub place_beyond : (t : List ℕ) (names : List (List ℕ)) (shapes : List Shape) (i : ℕ) → ¬ Contains (take i names) t → length shapes ≤ i
-    → None ≡ place_of t (fields_at names shapes)
-place_beyond t [] shapes i none h = refl
-place_beyond t (n ∷ names) [] i none h = refl
-place_beyond t (n ∷ names) (a ∷ shapes) zero none h = absurd (omega arith)
-place_beyond t (n ∷ names) (a ∷ shapes) (suc i) none h =
-    let rest = place_beyond t names shapes i (not_in_tail n t (take i names) none) (omega arith) in
+pub place_beyond : (t : List ℕ) (names : List (List ℕ)) (count i : ℕ) → ¬ Contains (take i names) t → count ≤ i → None ≡ place_in t (take count names)
+place_beyond t [] zero i none h = refl
+place_beyond t [] (suc count) i none h = refl
+place_beyond t (n ∷ names) zero i none h = refl
+place_beyond t (n ∷ names) (suc count) zero none h = absurd (omega arith)
+place_beyond t (n ∷ names) (suc count) (suc i) none h =
+    let rest = place_beyond t names count i (not_in_tail n t (take i names) none) (omega arith) in
     rw (head_differs n t (take i names) none, ← rest) refl
 
-pub place_missing : (t : List ℕ) (names : List (List ℕ)) (shapes : List Shape) → ¬ Contains names t → None ≡ place_of t (fields_at names shapes)
-place_missing t names shapes none =
-    let i = length names + length shapes in
-    place_beyond t names shapes i (rw (take_all i names (omega arith)) none) (omega arith)
+pub place_missing : (t : List ℕ) (names : List (List ℕ)) (count : ℕ) → ¬ Contains names t → None ≡ place_in t (take count names)
+place_missing t names count none =
+    let i = length names + count in
+    place_beyond t names count i (rw (take_all i names (omega arith)) none) (omega arith)
+
+-- the names that have a shape
+pub names_of_fields : (names : List (List ℕ)) (shapes : List Shape) → take (length shapes) names ≡ map (λ f. f.name) (fields_at names shapes)
+names_of_fields [] [] = refl
+names_of_fields [] (a ∷ shapes) = refl
+names_of_fields (n ∷ names) [] = refl
+names_of_fields (n ∷ names) (a ∷ shapes) = ap (λ rest. n ∷ rest) (names_of_fields names shapes)
+
+pub names_of_variants : (names : List (List ℕ)) (all : List VariantShape) → take (length all) names ≡ map (λ v. v.name) (variants_at names all)
+names_of_variants [] [] = refl
+names_of_variants [] (a ∷ all) = refl
+names_of_variants (n ∷ names) [] = refl
+names_of_variants (n ∷ names) (a ∷ all) = ap (λ rest. n ∷ rest) (names_of_variants names all)
 
 within_step : (b : Bool) (p : Option ℕ) (n : ℕ) → IfSome p (λ i. i < n) → IfSome (if b then Some 0 else option_map suc p) (λ i. i < suc n)
 within_step true p n h = omega arith
 within_step false None n h = tt
 within_step false (Some i) n h = omega (arith, h)
 
-pub place_within : (t : List ℕ) (fields : List (Field Source)) → IfSome (place_of t fields) (λ i. i < length fields)
-place_within t [] = tt
-place_within t (f ∷ fields) = within_step (bytes_eq f.name t) (place_of t fields) (length fields) (place_within t fields)
+name_within : (t : List ℕ) (names : List (List ℕ)) → IfSome (place_in t names) (λ i. i < length names)
+name_within t [] = tt
+name_within t (n ∷ names) = within_step (bytes_eq n t) (place_in t names) (length names) (name_within t names)
+
+place_within : (t : List ℕ) (fields : List (Field Source)) → IfSome (place_of t fields) (λ i. i < length fields)
+place_within t fields = rw (← length-map fields (λ f. f.name)) (name_within t (map (λ f. f.name) fields))
 
 known_within : (strict : Bool) (t : List ℕ) (p place : Option ℕ) (n : ℕ) → known strict t p ≡ given place → IfSome p (λ i. i < n) → IfSome place (λ i. i < n)
 known_within true t None place n e h = cc
@@ -106,6 +125,41 @@ pub answer_within : {E : Type 0} (fault : E → Option Fault) (strict : Bool) (f
 answer_within fault strict fields o (Ok None) n h a = tt
 answer_within fault strict fields o (Ok (Some i)) n h a = omega (arith, h, key_within strict fields o (Some i) a)
 answer_within fault strict fields o (Err e) n h a = tt
+
+-- the variants of an enum
+
+pub length_variants : (names : List (List ℕ)) (all : List VariantShape) → length (variants_at names all) ≡ min (length names) (length all)
+length_variants [] all = omega arith
+length_variants (n ∷ names) [] = omega arith
+length_variants (n ∷ names) (a ∷ all) = omega (arith, length_variants names all)
+
+-- a name with what is read of its payload
+abbrev pub variant : List ℕ → VariantShape → Variant (Wanted → Offer)
+variant n a = record { name = n; read = visited_payload (variant_shape_view a) }
+
+pub variant_at : (names : List (List ℕ)) (all : List VariantShape) (i : ℕ) (a : VariantShape) → i < length (variants_at names all) → a ≡ get_or all i a
+    → slice_get (variants_at names all) i ≡ Some (variant (get_or names i []) a)
+variant_at [] all i a h is = absurd (omega arith)
+variant_at (n ∷ names) [] i a h is = absurd (omega arith)
+variant_at (n ∷ names) (b ∷ all) zero a h is = rw is refl
+variant_at (n ∷ names) (b ∷ all) (suc i) a h is = variant_at names all i a (omega arith) is
+
+known_variant_within : (t : List ℕ) (p : Option ℕ) (i n : ℕ) → known_variant t p ≡ given i → IfSome p (λ j. j < n) → i < n
+known_variant_within t None i n e h = cc
+known_variant_within t (Some j) i n e h = let same : j ≡ i = cc in rw (← same) h
+
+variant_within : (t : List ℕ) (variants : List (Variant (Wanted → Offer))) → IfSome (place_of_variant t variants) (λ i. i < length variants)
+variant_within t variants = rw (← length-map variants (λ v. v.name)) (name_within t (map (λ v. v.name) variants))
+
+variant_place_within : (variants : List (Variant (Wanted → Offer))) (o : Offer) (i : ℕ) → variant_place variants o ≡ given i → i < length variants
+variant_place_within variants (scalar (offer.text t)) i e = known_variant_within t (place_of_variant t variants) i (length variants) e (variant_within t variants)
+variant_place_within variants (scalar (offer.character c)) i e = known_variant_within _ (place_of_variant _ variants) i (length variants) e (variant_within _ variants)
+variant_place_within variants o i e = cc
+
+pub answer_variant_within : {E : Type 0} (fault : E → Option Fault) (variants : List (Variant (Wanted → Offer))) (o : Offer) (r : Result ℕ E)
+    → (n : ℕ) → length variants ≤ n → Answers fault (λ place. place) r (variant_place variants o) → IfOk r (λ place. place < n)
+answer_variant_within fault variants o (Ok i) n h a = omega (arith, h, variant_place_within variants o i a)
+answer_variant_within fault variants o (Err e) n h a = tt
 
 -- the values of all fields
 

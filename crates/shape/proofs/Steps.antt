@@ -11,9 +11,9 @@ use Rattle.data_core.specs.Sequence.{rest_of, place_after, Ends}
 use Rattle.data_core.specs.Tracking.{Refusal, clear}
 use Rattle.data_core.specs.Outcome.{Outcome, given, refused, under, and_then, IsRefused}
 use Rattle.data_core.proofs.Refusals.{Carries, IsRefused-here}
-use Rattle.shape.specs.Shape.{Data, seq_data, parts_of}
+use Rattle.shape.specs.Shape.{Data}
 use Rattle.data_std.specs.Ignored.{at_key}
-use Rattle.shape.specs.First.{first, elements_data, each, row_of, unless, both, pair_of}
+use Rattle.shape.specs.First.{first, each, row_of, unless, both, pair_of}
 use Rattle.shape.specs.declared.data.Data as code
 use Rattle.shape.specs.declared.shapes.Shape.{Shape}
 use Rattle.shape.specs.View.{shape_view, readers_of, data_view}

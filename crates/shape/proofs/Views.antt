@@ -1,14 +1,20 @@
--- The shapes of a row as the list that its vector holds.
+-- The shapes of a row, and those of variants, as the lists that their vectors hold.
 use Rattle.std.proofs.Common.{◌≡◌, ◌∙◌, ℕ, List, [], ◌∷◌, true, false, ap, refl, map, length, Vec, Global, arith}
 use Rattle.data_core.specs.Ask as ask
 use Rattle.data_core.specs.Source.{Offer}
+use Rattle.data_core.specs.Wanted.{Wanted}
+use Rattle.data_core.specs.Wanted as wanted
 use Rattle.shape.specs.declared.shapes.Fields.{Fields}
-use Rattle.shape.specs.Shape.{tuple, tuple_struct, prefix, prefix_struct, struct, strict, loose, shape, shapes_of, number_of}
+use Rattle.shape.specs.declared.shapes.Variants.{Variants}
+use Rattle.shape.specs.declared.shapes.VariantShape.{VariantShape}
+use Rattle.shape.specs.declared.shapes.VariantShape as held
+use Rattle.shape.specs.Shape.{tuple, tuple_struct, prefix, prefix_struct, struct, strict, loose, enum, shape, shapes_of, number_of, payload, payloads_of, tuple_variant, struct_variant, strict_variant, loose_variant}
 use Rattle.shape.specs.Fields.{fields_of}
-use Rattle.shape.specs.First.{first, readers, asks, visited, tuple_of, prefix_of, struct_of}
-use Rattle.shape.specs.Upgraded.{upgraded, upgraded_all}
-use Rattle.shape.specs.declared.shapes.Shape.{Shape, Tuple, Tuple', TupleStruct, TupleStruct', Prefix, Prefix', PrefixStruct, PrefixStruct', Struct, Struct', Strict, Strict', Loose, Loose', Row_of-Shape, end_of-Shape, more_of-Shape, items-the_row-Shape, items_hidden-the_row-Shape-0}
-use Rattle.shape.specs.View.{shape_view, shapes_view, readers_of, fields_in}
+use Rattle.shape.specs.Variants.{variants_of}
+use Rattle.shape.specs.First.{first, readers, asks, visited, tuple_of, prefix_of, struct_of, enum_of, visited_payload, payload_readers, tuple_payload_of, struct_payload_of}
+use Rattle.shape.specs.Upgraded.{upgraded, upgraded_all, upgraded_payload, upgraded_payloads}
+use Rattle.shape.specs.declared.shapes.Shape.{Shape, Tuple, Tuple', TupleStruct, TupleStruct', Prefix, Prefix', PrefixStruct, PrefixStruct', Struct, Struct', Strict, Strict', Loose, Loose', Enum, Enum', Row_of-Shape, end_of-Shape, more_of-Shape, items-the_row-Shape, items_hidden-the_row-Shape-0, Row_of-VariantShape, end_of-VariantShape, more_of-VariantShape, items-the_row-VariantShape, items_hidden-the_row-VariantShape-1}
+use Rattle.shape.specs.View.{shape_view, shapes_view, variant_shape_view, payloads_view, readers_of, fields_in, payload_readers_of, variants_in}
 
 shapes_view-items : (n : _) (row : Row_of-Shape n) → shapes_view row ≡ shapes_of (map shape_view (items-the_row-Shape n row))
 shapes_view-items n end_of-Shape = refl
@@ -60,7 +66,49 @@ view_of_loose name f =
     let row = row_in (Loose name f) in
     ap (loose name f.names) (shapes_view-items row.0 row.1 ∙ ap (λ bs. shapes_of (map shape_view bs)) (items_hidden-the_row-Shape-0 f.shapes))
 
-pub ruleset views_of_rows = (view_of_tuple, view_of_tuple_struct, view_of_prefix, view_of_prefix_struct, view_of_struct, view_of_strict, view_of_loose)
+payloads_view-items : (n : _) (row : Row_of-VariantShape n) → payloads_view row ≡ payloads_of (map variant_shape_view (items-the_row-VariantShape n row))
+payloads_view-items n end_of-VariantShape = refl
+payloads_view-items n (more_of-VariantShape a rest) = ap (payload (variant_shape_view a)) (payloads_view-items _ rest)
+
+-- the variants that a shape has, if any
+abbrev variants_of_shape : Shape → (n : _) × Row_of-VariantShape n
+variants_of_shape (Enum' _ _ _ row) = (_, row)
+variants_of_shape _ = (_, end_of-VariantShape)
+
+pub view_of_enum : (name : List ℕ) (all : Variants) → shape_view (Enum name all) ≡ enum name all.names (payloads_of (map variant_shape_view all.shapes.items))
+view_of_enum name all =
+    let row = variants_of_shape (Enum name all) in
+    ap (enum name all.names) (payloads_view-items row.0 row.1 ∙ ap (λ bs. payloads_of (map variant_shape_view bs)) (items_hidden-the_row-VariantShape-1 all.shapes))
+
+-- the row that a variant has, if any
+abbrev row_of_variant : VariantShape → (n : _) × Row_of-Shape n
+row_of_variant (held.Tuple' _ row) = (_, row)
+row_of_variant (held.Struct' _ _ row) = (_, row)
+row_of_variant (held.Strict' _ _ row) = (_, row)
+row_of_variant (held.Loose' _ _ row) = (_, row)
+row_of_variant _ = (_, end_of-Shape)
+
+pub view_of_tuple_variant : (all : Vec Shape Global) → variant_shape_view (held.Tuple all) ≡ tuple_variant (shapes_of (map shape_view all.items))
+view_of_tuple_variant all =
+    let row = row_of_variant (held.Tuple all) in
+    ap tuple_variant (shapes_view-items row.0 row.1 ∙ ap (λ bs. shapes_of (map shape_view bs)) (items_hidden-the_row-Shape-0 all))
+
+pub view_of_struct_variant : (f : Fields) → variant_shape_view (held.Struct f) ≡ struct_variant f.names (shapes_of (map shape_view f.shapes.items))
+view_of_struct_variant f =
+    let row = row_of_variant (held.Struct f) in
+    ap (struct_variant f.names) (shapes_view-items row.0 row.1 ∙ ap (λ bs. shapes_of (map shape_view bs)) (items_hidden-the_row-Shape-0 f.shapes))
+
+pub view_of_strict_variant : (f : Fields) → variant_shape_view (held.Strict f) ≡ strict_variant f.names (shapes_of (map shape_view f.shapes.items))
+view_of_strict_variant f =
+    let row = row_of_variant (held.Strict f) in
+    ap (strict_variant f.names) (shapes_view-items row.0 row.1 ∙ ap (λ bs. shapes_of (map shape_view bs)) (items_hidden-the_row-Shape-0 f.shapes))
+
+pub view_of_loose_variant : (f : Fields) → variant_shape_view (held.Loose f) ≡ loose_variant f.names (shapes_of (map shape_view f.shapes.items))
+view_of_loose_variant f =
+    let row = row_of_variant (held.Loose f) in
+    ap (loose_variant f.names) (shapes_view-items row.0 row.1 ∙ ap (λ bs. shapes_of (map shape_view bs)) (items_hidden-the_row-Shape-0 f.shapes))
+
+pub ruleset views_of_rows = (view_of_tuple, view_of_tuple_struct, view_of_prefix, view_of_prefix_struct, view_of_struct, view_of_strict, view_of_loose, view_of_enum, view_of_tuple_variant, view_of_struct_variant, view_of_strict_variant, view_of_loose_variant)
 
 pub number_of-shapes : (all : List Shape) → number_of (shapes_of (map shape_view all)) ≡ length all
 number_of-shapes [] = refl
@@ -73,6 +121,14 @@ readers-shapes (a ∷ rest) = ap (λ rs. first (shape_view a) ∷ rs) (readers-s
 pub upgraded-shapes : (all : List Shape) → upgraded_all (shapes_of (map shape_view all)) ≡ shapes_of (map (λ a. upgraded (shape_view a)) all)
 upgraded-shapes [] = refl
 upgraded-shapes (a ∷ rest) = ap (shape (upgraded (shape_view a))) (upgraded-shapes rest)
+
+payload_readers-payloads : (all : List VariantShape) → payload_readers (payloads_of (map variant_shape_view all)) ≡ payload_readers_of all
+payload_readers-payloads [] = refl
+payload_readers-payloads (a ∷ rest) = ap (λ rs. visited_payload (variant_shape_view a) ∷ rs) (payload_readers-payloads rest)
+
+pub upgraded-payloads : (all : List VariantShape) → upgraded_payloads (payloads_of (map variant_shape_view all)) ≡ payloads_of (map (λ a. upgraded_payload (variant_shape_view a)) all)
+upgraded-payloads [] = refl
+upgraded-payloads (a ∷ rest) = ap (payload (upgraded_payload (variant_shape_view a))) (upgraded-payloads rest)
 
 -- what a shape with a row hopes for, and what it makes of an offer
 
@@ -106,4 +162,29 @@ pub visited_loose : (name : List ℕ) (f : Fields) (o : Offer) → visited (shap
 visited_loose name f o =
     ap (λ a. visited a o) (view_of_loose name f) ∙ ap (λ rs. struct_of false false (fields_of f.names (shapes_of (map shape_view f.shapes.items)) rs) rs o) (readers-shapes f.shapes.items)
 
-pub ruleset rows = (views_of_rows, number_of-shapes, readers-shapes, upgraded-shapes)
+pub visited_enum : (name : List ℕ) (all : Variants) (o : Offer) → visited (shape_view (Enum name all)) o ≡ enum_of (variants_in all) o
+visited_enum name all o = ap (λ a. visited a o) (view_of_enum name all) ∙ ap (λ rs. enum_of (variants_of all.names rs) o) (payload_readers-payloads all.shapes.items)
+
+-- what a variant with a row makes of what is offered for its payload
+
+pub visited_tuple_variant : (all : Vec Shape Global) (offered : Wanted → Offer)
+    → visited_payload (variant_shape_view (held.Tuple all)) offered ≡ tuple_payload_of (readers_of all.items) (offered (wanted.tuple (length all.items)))
+visited_tuple_variant all offered =
+    ap (λ p. visited_payload p offered) (view_of_tuple_variant all) ∙ (λ i. tuple_payload_of (readers-shapes all.items i) (offered (wanted.tuple (number_of-shapes all.items i))))
+
+pub visited_struct_variant : (f : Fields) (offered : Wanted → Offer)
+    → visited_payload (variant_shape_view (held.Struct f)) offered ≡ struct_payload_of true (fields_in f) (offered (wanted.struct f.names))
+visited_struct_variant f offered =
+    ap (λ p. visited_payload p offered) (view_of_struct_variant f) ∙ ap (λ rs. struct_payload_of true (fields_of f.names (shapes_of (map shape_view f.shapes.items)) rs) (offered (wanted.struct f.names))) (readers-shapes f.shapes.items)
+
+pub visited_strict_variant : (f : Fields) (offered : Wanted → Offer)
+    → visited_payload (variant_shape_view (held.Strict f)) offered ≡ struct_payload_of true (fields_in f) (offered (wanted.struct f.names))
+visited_strict_variant f offered =
+    ap (λ p. visited_payload p offered) (view_of_strict_variant f) ∙ ap (λ rs. struct_payload_of true (fields_of f.names (shapes_of (map shape_view f.shapes.items)) rs) (offered (wanted.struct f.names))) (readers-shapes f.shapes.items)
+
+pub visited_loose_variant : (f : Fields) (offered : Wanted → Offer)
+    → visited_payload (variant_shape_view (held.Loose f)) offered ≡ struct_payload_of false (fields_in f) (offered (wanted.struct f.names))
+visited_loose_variant f offered =
+    ap (λ p. visited_payload p offered) (view_of_loose_variant f) ∙ ap (λ rs. struct_payload_of false (fields_of f.names (shapes_of (map shape_view f.shapes.items)) rs) (offered (wanted.struct f.names))) (readers-shapes f.shapes.items)
+
+pub ruleset rows = (views_of_rows, number_of-shapes, readers-shapes, upgraded-shapes, upgraded-payloads)

@@ -8,7 +8,7 @@ use Rattle.data_core.specs.Outcome.{Outcome, given, refused, under, and_then, no
 use Rattle.data_core.specs.declared.path.Segment.{Segment}
 use Rattle.data_core.specs.Table.{segment_of_key}
 use Rattle.data_std.specs.Ignored.{ignored, at_key}
-use Rattle.shape.specs.Shape.{Shape, option, Shapes, no_shapes, shape, Data, nothing}
+use Rattle.shape.specs.Shape.{Shape, option, Shapes, shape, Data, nothing}
 
 -- a field: its name, whether it may be missing, and what its value is read as, over sources or over trees
 pub record Field (S : Type 0) : Type 0 where
@@ -26,10 +26,14 @@ fields_of (n ∷ names) (shape a rest) (read ∷ reads) =
     record { name = n; may_be_missing = is_option a; read = read } ∷ fields_of names rest reads
 fields_of names row reads = []
 
+-- the first place of a name
+abbrev pub place_in : List ℕ → List (List ℕ) → Option ℕ
+place_in t [] = None
+place_in t (n ∷ names) = if bytes_eq n t then Some 0 else option_map suc (place_in t names)
+
 -- the place of the first field of a name
 abbrev pub place_of : {S : Type 0} → List ℕ → List (Field S) → Option ℕ
-place_of t [] = None
-place_of t (f ∷ fields) = if bytes_eq f.name t then Some 0 else option_map suc (place_of t fields)
+place_of t fields = place_in t (map (λ f. f.name) fields)
 
 -- a name that is none of the fields' is refused where the reader is strict
 abbrev pub known : Bool → List ℕ → Option ℕ → Outcome (Option ℕ)

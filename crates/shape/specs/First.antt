@@ -9,16 +9,20 @@ use Rattle.data_core.specs.Ask as ask
 use Rattle.data_core.specs.Ask.{Ask}
 use Rattle.data_core.specs.Source.{Source, Sources, end, more, Entries, no_entries, entry, Offer, scalar, elements, entries, offer_of}
 use Rattle.data_core.specs.Source as offer
-use Rattle.data_core.specs.Outcome.{Outcome, given, refused, under, and_then, not_taken}
+use Rattle.data_core.specs.Outcome.{Outcome, given, refused, under, bare, and_then, not_taken}
 use Rattle.data_core.specs.Sequence.{surplus}
 use Rattle.data_core.specs.declared.path.Segment.{Segment}
 use Rattle.data_core.specs.declared.path.Segment.TheVariants.{Seq}
 use Rattle.data_core.specs.Table.{segment_of_key}
+use Rattle.data_core.specs.Wanted.{Wanted}
+use Rattle.data_core.specs.Wanted as wanted
+use Rattle.data_core.specs.Choice.{segment_of_variant}
 use Rattle.data_core.specs.Pairs.{put}
 use Rattle.data_std.specs.Ignored.{ignored_rest, at_key}
 use Rattle.shape.specs.DataOrder.{data_order}
 use Rattle.shape.specs.Fields.{Field, fields_of, named}
-use Rattle.shape.specs.Shape.{Shape, boolean, u8, u16, u32, u64, i8, i16, i32, i64, character, text, bytes, unit, unit_struct, option, seq, tuple, tuple_struct, prefix, prefix_struct, map, newtype, struct, strict, loose, number_of, Shapes, no_shapes, shape, Data, boolean_data, unsigned, signed, character_data, text_data, bytes_data, unit_data, nothing, something, newtype_data, seq_data, map_data, struct_data, parts_of, pairs_of}
+use Rattle.shape.specs.Variants.{Variant, variants_of, variant_place, with_payload}
+use Rattle.shape.specs.Shape.{Shape, boolean, u8, u16, u32, u64, i8, i16, i32, i64, character, text, bytes, unit, unit_struct, option, seq, tuple, tuple_struct, prefix, prefix_struct, map, newtype, struct, strict, loose, enum, number_of, Shapes, no_shapes, shape, Payloads, no_payloads, payload, PayloadShape, unit_variant, newtype_variant, tuple_variant, struct_variant, strict_variant, loose_variant, Data, boolean_data, unsigned, signed, character_data, text_data, bytes_data, unit_data, nothing, something, newtype_data, seq_data, map_data, struct_data, PayloadData, unit_payload, newtype_payload, tuple_payload, struct_payload, parts_of, pairs_of}
 
 -- what a shape hopes for
 abbrev pub asks : Shape → Ask
@@ -47,6 +51,7 @@ asks (newtype name a) = ask.newtype_struct name
 asks (struct name names row) = ask.struct name names
 asks (strict name names row) = ask.struct name names
 asks (loose name names row) = ask.struct name names
+asks (enum name names held) = ask.enum name names
 
 -- the boolean, and nothing else
 abbrev pub boolean_of : Offer → Outcome Data
@@ -184,6 +189,33 @@ struct_of whole exact fields reads (elements checks ss) = fields_data (row_of (r
 struct_of whole exact fields reads (entries checks es) = fields_data (named exact fields es)
 struct_of whole exact fields reads o = not_taken o
 
+-- a variant without a payload
+abbrev pub unit_payload_of : Offer → Outcome PayloadData
+unit_payload_of (scalar offer.unit) = given unit_payload
+unit_payload_of o = not_taken o
+
+-- the inside of a newtype variant
+abbrev pub newtype_payload_of : (Source → Outcome Data) → Offer → Outcome PayloadData
+newtype_payload_of read (offer.newtype_struct s) = and_then (read s) (λ d. given (newtype_payload d))
+newtype_payload_of read o = not_taken o
+
+-- a tuple variant: no element is left, where the end is checked
+abbrev pub tuple_payload_of : List (Source → Outcome Data) → Offer → Outcome PayloadData
+tuple_payload_of reads (elements checks ss) = and_then (row_of (refuse_rest checks) reads 0 ss) (λ ds. given (tuple_payload (parts_of ds)))
+tuple_payload_of reads o = not_taken o
+
+-- a struct variant, from entries by name
+abbrev pub struct_payload_of : Bool → List (Field Source) → Offer → Outcome PayloadData
+struct_payload_of exact fields (entries checks es) = and_then (named exact fields es) (λ ds. given (struct_payload (parts_of ds)))
+struct_payload_of exact fields o = not_taken o
+
+-- a variant: its name, whose refusal is that of the enum itself, and then its payload under the variant's
+-- segment
+abbrev pub enum_of : List (Variant (Wanted → Offer)) → Offer → Outcome Data
+enum_of variants (offer.variant name offered) =
+    and_then (bare (variant_place variants (offer_of name ask.identifier))) (with_payload variants (segment_of_variant ask.identifier name) offered)
+enum_of variants o = not_taken o
+
 abbrev mutual
   -- what a shape makes of an offer
   pub visited : Shape → Offer → Outcome Data
@@ -212,10 +244,24 @@ abbrev mutual
   visited (struct name names row) o = struct_of true true (fields_of names row (readers row)) (readers row) o
   visited (strict name names row) o = struct_of false true (fields_of names row (readers row)) (readers row) o
   visited (loose name names row) o = struct_of false false (fields_of names row (readers row)) (readers row) o
+  visited (enum name names held) o = enum_of (variants_of names (payload_readers held)) o
+
+  -- what a variant's payload is read as, by what is offered for it
+  pub visited_payload : PayloadShape → (Wanted → Offer) → Outcome PayloadData
+  visited_payload unit_variant offered = unit_payload_of (offered wanted.unit)
+  visited_payload (newtype_variant a) offered = newtype_payload_of (λ s. visited a (offer_of s (asks a))) (offered wanted.newtype)
+  visited_payload (tuple_variant row) offered = tuple_payload_of (readers row) (offered (wanted.tuple (number_of row)))
+  visited_payload (struct_variant names row) offered = struct_payload_of true (fields_of names row (readers row)) (offered (wanted.struct names))
+  visited_payload (strict_variant names row) offered = struct_payload_of true (fields_of names row (readers row)) (offered (wanted.struct names))
+  visited_payload (loose_variant names row) offered = struct_payload_of false (fields_of names row (readers row)) (offered (wanted.struct names))
 
   pub readers : Shapes → List (Source → Outcome Data)
   readers no_shapes = []
   readers (shape a rest) = (λ s. visited a (offer_of s (asks a))) ∷ readers rest
+
+  pub payload_readers : Payloads → List ((Wanted → Offer) → Outcome PayloadData)
+  payload_readers no_payloads = []
+  payload_readers (payload p rest) = (λ offered. visited_payload p offered) ∷ payload_readers rest
 
 abbrev pub first : Shape → Source → Outcome Data
 first a s = visited a (offer_of s (asks a))

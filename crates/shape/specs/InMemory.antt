@@ -3,7 +3,11 @@ use Rattle.std.specs.Prelude.{ℕ, ◌-◌, Bool, true, false, List, [], ◌∷�
 use Rattle.std.specs.declared.alloc.Global.{Global}
 use Rattle.data_core.specs.declared.de.Scalar as code
 use Rattle.data_core.specs.Show.{scalar_view}
-use Rattle.data_core.specs.Source.{Source, source, Scalar, scalar, unsigned, elements, entries, Sources, end, more, Entries, no_entries, entry}
+use Rattle.data_core.specs.declared.fault.Fault.TheVariants.{InvalidType}
+use Rattle.data_core.specs.declared.fault.Kind.TheVariants as kind
+use Rattle.data_core.specs.Wanted.{Wanted}
+use Rattle.data_core.specs.Wanted as wanted
+use Rattle.data_core.specs.Source.{Source, source, Scalar, scalar, unsigned, Offer, elements, newtype_struct, entries, variant, refused, Sources, end, more, Entries, no_entries, entry}
 use Rattle.data_core.specs.Sequence.{Sequence}
 use Rattle.data_core.specs.Table.{Table}
 
@@ -48,3 +52,20 @@ table es = source (λ _. entries false es)
 abbrev pub pairs_left : ℕ → Option ℕ → List (Scalar × ℕ) → Table
 pairs_left taken waiting ps =
     record { left = pairs ps; taken = taken; waiting = option_map number waiting; caught = None; checks = false }
+
+-- a variant at a scalar, whatever is asked for
+abbrev pub chosen : Scalar → (Wanted → Offer) → Source
+chosen name offered = source (λ _. variant (source (λ _. scalar name)) offered)
+
+-- what is offered for a payload: what the variant holds, where that is wanted
+abbrev pub number_payload : ℕ → Wanted → Offer
+number_payload n wanted.newtype = newtype_struct (number n)
+number_payload n wants = refused (InvalidType kind.NewtypeVariant)
+
+abbrev pub row_payload : Bool → Sources → Wanted → Offer
+row_payload checks ss (wanted.tuple len) = elements checks ss
+row_payload checks ss wants = refused (InvalidType kind.TupleVariant)
+
+abbrev pub table_payload : Entries → Wanted → Offer
+table_payload es (wanted.struct fields) = entries false es
+table_payload es wants = refused (InvalidType kind.StructVariant)

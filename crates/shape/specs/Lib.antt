@@ -2,6 +2,7 @@ pub mod Shape
 pub mod DataCode
 pub mod Depth
 pub mod Fields
+pub mod Variants
 pub mod First
 pub mod View
 pub mod Steps

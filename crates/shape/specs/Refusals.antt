@@ -3,7 +3,7 @@ use Rattle.std.proofs.Common.{◌≡◌, [], refl}
 use Rattle.data_core.specs.declared.fault.Fault.{Fault}
 use Rattle.data_core.specs.Source as offer
 use Rattle.data_core.specs.Outcome.{refused}
-use Rattle.shape.specs.Shape.{Shape, boolean, u8, u16, u32, u64, i8, i16, i32, i64, character, text, bytes, unit, unit_struct, option, seq, tuple, tuple_struct, prefix, prefix_struct, map, newtype, struct, strict, loose}
+use Rattle.shape.specs.Shape.{Shape, boolean, u8, u16, u32, u64, i8, i16, i32, i64, character, text, bytes, unit, unit_struct, option, seq, tuple, tuple_struct, prefix, prefix_struct, map, newtype, struct, strict, loose, enum}
 use Rattle.shape.specs.First.{visited}
 
 pub visited_refused : (a : Shape) (f : Fault) → visited a (offer.refused f) ≡ refused f []
@@ -32,3 +32,4 @@ visited_refused (newtype name a) f = refl
 visited_refused (struct name names row) f = refl
 visited_refused (strict name names row) f = refl
 visited_refused (loose name names row) f = refl
+visited_refused (enum name names held) f = refl

@@ -33,14 +33,36 @@ mutual
     strict : List ℕ → List (List ℕ) → Shapes → Shape
     -- a struct, beside whose fields others may come, too
     loose : List ℕ → List (List ℕ) → Shapes → Shape
+    -- an enum: its name, the names of its variants, and what they hold at their places
+    enum : List ℕ → List (List ℕ) → Payloads → Shape
 
   pub data Shapes : Type 0 where
     no_shapes : Shapes
     shape : Shape → Shapes → Shapes
 
+  -- what variants hold
+  pub data Payloads : Type 0 where
+    no_payloads : Payloads
+    payload : PayloadShape → Payloads → Payloads
+
+  -- what a variant holds: nothing, one part, elements, or fields with the shapes at their places
+  pub data PayloadShape : Type 0 where
+    unit_variant : PayloadShape
+    newtype_variant : Shape → PayloadShape
+    tuple_variant : Shapes → PayloadShape
+    struct_variant : List (List ℕ) → Shapes → PayloadShape
+    -- fields beside which no others may come, in an upgraded shape too
+    strict_variant : List (List ℕ) → Shapes → PayloadShape
+    -- fields beside which others may come
+    loose_variant : List (List ℕ) → Shapes → PayloadShape
+
 abbrev pub shapes_of : List Shape → Shapes
 shapes_of [] = no_shapes
 shapes_of (a ∷ rest) = shape a (shapes_of rest)
+
+abbrev pub payloads_of : List PayloadShape → Payloads
+payloads_of [] = no_payloads
+payloads_of (p ∷ rest) = payload p (payloads_of rest)
 
 abbrev pub number_of : Shapes → ℕ
 number_of no_shapes = 0

@@ -2,14 +2,19 @@
 use denote.Ref.{Bor}
 use Rattle.std.specs.Prelude.{ℕ, List, map, Option, None, Some, option_map, Vec}
 use Rattle.std.specs.declared.alloc.Global.{Global}
-use Rattle.data_core.specs.Source.{Source}
+use Rattle.data_core.specs.Source.{Source, Offer}
+use Rattle.data_core.specs.Wanted.{Wanted}
 use Rattle.data_core.specs.Outcome.{Outcome}
 use Rattle.shape.specs.Shape as spec
 use Rattle.shape.specs.Fields.{Field, fields_of}
-use Rattle.shape.specs.First.{first}
-use Rattle.shape.specs.declared.shapes.Shape.{Shape, Row_of-Shape, end_of-Shape, more_of-Shape}
+use Rattle.shape.specs.Variants.{Variant, variants_of}
+use Rattle.shape.specs.First.{first, visited_payload}
+use Rattle.shape.specs.declared.shapes.Shape.{Shape, Row_of-Shape, end_of-Shape, more_of-Shape, Row_of-VariantShape, end_of-VariantShape, more_of-VariantShape}
 use Rattle.shape.specs.declared.shapes.Shape as shape
 use Rattle.shape.specs.declared.shapes.Fields.{Fields}
+use Rattle.shape.specs.declared.shapes.VariantShape.{VariantShape}
+use Rattle.shape.specs.declared.shapes.VariantShape as variant
+use Rattle.shape.specs.declared.shapes.Variants.{Variants}
 use Rattle.shape.specs.declared.data.Data.{Data}
 use Rattle.shape.specs.declared.data.Data.TheVariants as datum
 use Rattle.shape.specs.declared.data.Payload.{Payload}
@@ -42,10 +47,23 @@ abbrev mutual
   shape_view (shape.Struct' name names m row) = spec.struct name names (shapes_view row)
   shape_view (shape.Strict' name names m row) = spec.strict name names (shapes_view row)
   shape_view (shape.Loose' name names m row) = spec.loose name names (shapes_view row)
+  shape_view (shape.Enum' name names m row) = spec.enum name names (payloads_view row)
 
   pub shapes_view : {m : _} → Row_of-Shape m → spec.Shapes
   shapes_view end_of-Shape = spec.no_shapes
   shapes_view (more_of-Shape a rest) = spec.shape (shape_view a) (shapes_view rest)
+
+  pub variant_shape_view : VariantShape → spec.PayloadShape
+  variant_shape_view variant.Unit = spec.unit_variant
+  variant_shape_view (variant.Newtype' p a) = spec.newtype_variant (shape_view a)
+  variant_shape_view (variant.Tuple' m row) = spec.tuple_variant (shapes_view row)
+  variant_shape_view (variant.Struct' names m row) = spec.struct_variant names (shapes_view row)
+  variant_shape_view (variant.Strict' names m row) = spec.strict_variant names (shapes_view row)
+  variant_shape_view (variant.Loose' names m row) = spec.loose_variant names (shapes_view row)
+
+  pub payloads_view : {m : _} → Row_of-VariantShape m → spec.Payloads
+  payloads_view end_of-VariantShape = spec.no_payloads
+  payloads_view (more_of-VariantShape v rest) = spec.payload (variant_shape_view v) (payloads_view rest)
 
 -- an option, by what its inside is seen as
 abbrev pub option_view : Option spec.Data → spec.Data
@@ -89,6 +107,16 @@ fields_at names all = fields_of names (spec.shapes_of (map shape_view all)) (rea
 
 abbrev pub fields_in : Fields → List (Field Source)
 fields_in f = fields_at f.names f.shapes.items
+
+-- names with the shapes of the payloads at their places
+abbrev pub payload_readers_of : List VariantShape → List ((Wanted → Offer) → Outcome spec.PayloadData)
+payload_readers_of all = map (λ v. visited_payload (variant_shape_view v)) all
+
+abbrev pub variants_at : List (List ℕ) → List VariantShape → List (Variant (Wanted → Offer))
+variants_at names all = variants_of names (payload_readers_of all)
+
+abbrev pub variants_in : Variants → List (Variant (Wanted → Offer))
+variants_in v = variants_at v.names v.shapes.items
 
 -- what is in the slots of fields
 abbrev pub slot_view : Option Data → Option spec.Data

@@ -26,7 +26,7 @@ pub fn visit_map<D: Deserializer>(
 ) -> Result<Data, D::Error>
     ensures { Gives D.Error.fault D.tracks data_view result
         (map_of (asks (shape_view shapes.now.key)) (first (shape_view shapes.now.key)) (first (shape_view shapes.now.value))
-        (shown_offer D.Text.text D.Bytes.bytes D.source D.sequence D.table shown))
+        (shown_offer D.Text.text D.Bytes.bytes D.source D.sequence D.table D.choice shown))
         track.old track.new }
 {
     match shown {

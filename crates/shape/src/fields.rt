@@ -1,6 +1,6 @@
 //! The fields of a struct.
-ghost use Rattle.std.specs.Prelude.{◌≡◌, ◌++◌, ◌∷◌, ◌<◌, ◌==◌, [], Some, length, slice_get, OnOk, IfErr};
-ghost use Rattle.shape.specs.Fields.{place_of};
+ghost use Rattle.std.specs.Prelude.{◌≡◌, ◌++◌, ◌∷◌, ◌==◌, [], length, take, OnOk, IfErr};
+ghost use Rattle.shape.specs.Fields.{place_in, place_of};
 ghost use Rattle.shape.specs.View.{fields_in};
 
 use crate::shapes::{Fields, Shape};
@@ -70,9 +70,16 @@ impl Fields {
     pub fn find(&self, name: &str) -> Option<usize>
         ensures { result ≡ place_of name.now (fields_in self.now) }
     {
-        match self.names.find(name) {
-            Some(place) if place < self.shapes.len() => Some(place),
-            _ => None,
-        }
+        place_among(&self.names, self.shapes.len(), name)
+    }
+}
+
+/// The first place of a name among the first `count` of them.
+pub fn place_among(names: &Names, count: usize, name: &str) -> Option<usize>
+    ensures { result ≡ place_in name.now (take count names.now) }
+{
+    match names.find(name) {
+        Some(place) if place < count => Some(place),
+        _ => None,
     }
 }

@@ -3,6 +3,7 @@
 
 mod data;
 mod entries;
+mod enums;
 #[cfg(test)]
 mod field_tests;
 mod fields;
@@ -25,6 +26,9 @@ mod structs;
 #[cfg(test)]
 mod tests;
 mod traits;
+#[cfg(test)]
+mod variant_tests;
+mod variants;
 mod version;
 
 pub use data::{Data, DataHeld, DataItems, DataMap, Payload};
@@ -32,5 +36,5 @@ pub use iter::DataMapIter;
 pub use map::DataUnplaced;
 pub use reader::{hint, visit};
 pub use seed::ShapeSeed;
-pub use shapes::{Fields, MapShape, Shape};
+pub use shapes::{Fields, MapShape, Shape, VariantShape, Variants};
 pub use version::upgrade;

@@ -47,7 +47,13 @@ fn maps_are_read_to_their_end(rt: HostRuntime) -> Result<(), Fail> {
     for (plain, want) in table {
         assert_eq!(rt; read_plain(alloc, &shape, plain)?.as_str(), want);
     }
-    let shape = upgrade(shape);
+    Ok(())
+}
+
+#[test]
+fn an_upgraded_map_is_read(rt: HostRuntime) -> Result<(), Fail> {
+    let alloc = rt.alloc();
+    let shape = upgrade(map_shape(alloc, Shape::U8, Shape::I8)?);
     let plain = numbered(alloc, &[(1, 2)])?;
     assert_eq!(rt;
         read_plain(alloc, &shape, plain)?.as_str(),

@@ -1,17 +1,22 @@
 //! Values in memory, for tests.
-ghost use Rattle.std.specs.Prelude.{◌≤◌, length, map, Option, Some, None, false, true, string_bytes};
+ghost use Rattle.std.specs.Prelude.{◌≡◌, ◌≤◌, length, map, Option, Some, None, false, true, string_bytes};
 ghost use Rattle.std.specs.Vec.Iter.{into_iter_items};
 ghost use Rattle.data_core.specs.declared.fault.Fault as code;
-ghost use Rattle.data_core.specs.Source.{Source, source, scalar};
+ghost use Rattle.data_core.specs.declared.fault.Fault.TheVariants.{InvalidType};
+ghost use Rattle.data_core.specs.Source.{Source, Offer, source, scalar};
 ghost use Rattle.data_core.specs.Sequence.{Sequence};
 ghost use Rattle.data_core.specs.Show.{scalar_view};
-ghost use Rattle.shape.specs.InMemory.{numbers, row, rows, pairs, table, numbers_left, rows_left, pairs_left, key_view};
+ghost use Rattle.data_core.specs.Wanted.{Wanted};
+ghost use Rattle.data_core.specs.Node.{no_payload};
+ghost use Rattle.data_core.specs.Choice.{Choice};
+ghost use Rattle.shape.specs.InMemory.{numbers, row, rows, pairs, table, chosen, number_payload, row_payload, table_payload, numbers_left, rows_left, pairs_left, key_view};
+ghost use Rattle.shape.specs.declared.memory.PlainError.TheVariants as error;
 
 use data_core::{
-    DeError, Deserializer, Fault, Hint, Names, Scalar, Shown, Text, Track, Unexpected,
+    DeError, Deserializer, Fault, Hint, Kind, Names, Scalar, Shown, Text, Track, Unexpected,
 };
 use std::alloc::Global;
-use std::vec;
+use std::{mem, vec};
 
 #[derive(Drop)]
 pub enum PlainError {
@@ -19,10 +24,7 @@ pub enum PlainError {
     Memory,
 }
 
-// No variant is in memory: such a fault is kept as want of memory, which any may be.
 impl DeError for PlainError {
-    ghost use Rattle.shape.specs.declared.memory.PlainError.TheVariants as error;
-
     ghost fault = { λ e. elim e as (λ _. Option code.Fault) [ error.Refused f ↦ Some f | error.Memory ↦ None ] };
 
     fn memory() -> PlainError {
@@ -45,8 +47,11 @@ impl DeError for PlainError {
         PlainError::Refused(Fault::InvalidLength(len))
     }
 
-    fn unknown_variant(_alloc: Global, _variant: &str, _expected: &Names) -> PlainError {
-        PlainError::Memory
+    fn unknown_variant(alloc: Global, variant: &str, _expected: &Names) -> PlainError {
+        match Text::new(alloc, variant) {
+            Ok(variant) => PlainError::Refused(Fault::UnknownVariant(variant)),
+            Err(_) => PlainError::Memory,
+        }
     }
 
     fn unknown_field(alloc: Global, field: &str, _expected: &Names) -> PlainError {
@@ -85,14 +90,24 @@ pub struct Row {
     pub numbers: Vec<u16>,
 }
 
-// What is in memory: a scalar, numbers in a row, rows in a row whose end is checked, or numbers
-// at scalars.
+// What a variant in memory holds: nothing, a number, numbers in a row, or numbers at scalars.
+#[derive(Drop)]
+pub enum PlainPayload {
+    Unit,
+    Number(u16),
+    Row(Row),
+    Table(Vec<(Scalar<String, Vec<u8>>, u16)>),
+}
+
+// What is in memory: a scalar, numbers in a row, rows in a row whose end is checked, numbers at
+// scalars, or a variant at a scalar.
 #[derive(Drop)]
 pub enum Plain {
     Scalar(Scalar<String, Vec<u8>>),
     Row(Row),
     Rows(Vec<Row>),
     Table(Vec<(Scalar<String, Vec<u8>>, u16)>),
+    Variant(Scalar<String, Vec<u8>>, PlainPayload),
 }
 
 // The numbers of a row that are left.
@@ -126,6 +141,13 @@ pub struct PlainEntries {
     entries: vec::IntoIter<(Scalar<String, Vec<u8>>, u16)>,
 }
 
+// The refusal of a variant of this kind, where another is wanted.
+fn of_kind(kind: Kind) -> PlainError
+    ensures { result ≡ error.Refused (InvalidType kind) }
+{
+    PlainError::Refused(Fault::InvalidType(kind))
+}
+
 // It shows what is there, whatever is hoped for.
 impl Deserializer for Plain {
     type Error = PlainError;
@@ -138,7 +160,10 @@ impl Deserializer for Plain {
 
     type Map = PlainEntries;
 
+    type Variant = PlainPayload;
+
     ghost use Rattle.shape.specs.declared.memory.Plain.TheVariants as plain;
+    ghost use Rattle.shape.specs.declared.memory.PlainPayload.TheVariants as held;
     ghost use Rattle.shape.specs.declared.memory.PlainSeq.TheVariants as left;
 
     ghost tracks = { false };
@@ -148,6 +173,12 @@ impl Deserializer for Plain {
       | plain.Row r ↦ row r.is_checked (numbers r.numbers.items)
       | plain.Rows rs ↦ row true (rows (map (λ r. (r.is_checked, r.numbers.items)) rs.items))
       | plain.Table ps ↦ table (pairs (map key_view ps.items))
+      | plain.Variant s p ↦ chosen (scalar_view string_bytes (λ b. b.items) s) (elim p as (λ _. Wanted → Offer) [
+        | held.Unit ↦ no_payload
+        | held.Number n ↦ number_payload n
+        | held.Row r ↦ row_payload r.is_checked (numbers r.numbers.items)
+        | held.Table ps ↦ table_payload (pairs (map key_view ps.items))
+      ])
     ] };
 
     ghost sequence = { λ q. elim q as (λ _. Sequence) [
@@ -156,6 +187,16 @@ impl Deserializer for Plain {
     ] };
 
     ghost table = { λ m. pairs_left m.taken m.waiting (map key_view (into_iter_items m.entries)) };
+
+    ghost choice = { λ v. record {
+      payload = elim v as (λ _. Wanted → Offer) [
+        | held.Unit ↦ no_payload
+        | held.Number n ↦ number_payload n
+        | held.Row r ↦ row_payload r.is_checked (numbers r.numbers.items)
+        | held.Table ps ↦ table_payload (pairs (map key_view ps.items))
+      ];
+      caught = None;
+    } };
 
     fn show(self, _hint: Hint<'_>) -> Result<Shown<Plain>, PlainError> {
         match self {
@@ -174,6 +215,7 @@ impl Deserializer for Plain {
                 waiting: None,
                 entries: pairs.into_iter(),
             })),
+            Plain::Variant(name, payload) => Ok(Shown::Enum(Plain::Scalar(name), payload)),
         }
     }
 
@@ -274,6 +316,84 @@ impl Deserializer for Plain {
     }
 
     fn end_map(_alloc: Global, _map: PlainEntries) -> Result<(), PlainError> {
+        Ok(())
+    }
+
+    fn show_name(
+        _variant: &mut PlainPayload,
+        name: Plain,
+        hint: Hint<'_>,
+    ) -> Result<Shown<Plain>, PlainError> {
+        name.show(hint)
+    }
+
+    fn leave_name(
+        _variant: &mut PlainPayload,
+        _held: bool,
+        _failed: bool,
+        _track: &mut Track,
+    ) -> Result<(), PlainError> {
+        Ok(())
+    }
+
+    fn unit_variant(_alloc: Global, variant: &mut PlainPayload) -> Result<(), PlainError> {
+        match variant {
+            PlainPayload::Unit => Ok(()),
+            PlainPayload::Number(_) => Err(of_kind(Kind::NewtypeVariant)),
+            PlainPayload::Row(_) => Err(of_kind(Kind::TupleVariant)),
+            PlainPayload::Table(_) => Err(of_kind(Kind::StructVariant)),
+        }
+    }
+
+    fn newtype_variant(_alloc: Global, variant: &mut PlainPayload) -> Result<Plain, PlainError> {
+        match variant {
+            PlainPayload::Unit => Err(of_kind(Kind::UnitVariant)),
+            PlainPayload::Number(number) => Ok(Plain::Scalar(Scalar::U16(*number))),
+            PlainPayload::Row(_) => Err(of_kind(Kind::TupleVariant)),
+            PlainPayload::Table(_) => Err(of_kind(Kind::StructVariant)),
+        }
+    }
+
+    fn tuple_variant(
+        _alloc: Global,
+        variant: &mut PlainPayload,
+        _len: usize,
+    ) -> Result<PlainSeq, PlainError> {
+        match mem::replace(variant, PlainPayload::Unit) {
+            PlainPayload::Unit => Err(of_kind(Kind::UnitVariant)),
+            PlainPayload::Number(_) => Err(of_kind(Kind::NewtypeVariant)),
+            PlainPayload::Row(row) => Ok(PlainSeq::Numbers(NumbersLeft {
+                is_checked: row.is_checked,
+                total: row.numbers.len(),
+                numbers: row.numbers.into_iter(),
+            })),
+            PlainPayload::Table(_) => Err(of_kind(Kind::StructVariant)),
+        }
+    }
+
+    fn struct_variant(
+        _alloc: Global,
+        variant: &mut PlainPayload,
+        _fields: &Names,
+    ) -> Result<PlainEntries, PlainError> {
+        match mem::replace(variant, PlainPayload::Unit) {
+            PlainPayload::Unit => Err(of_kind(Kind::UnitVariant)),
+            PlainPayload::Number(_) => Err(of_kind(Kind::NewtypeVariant)),
+            PlainPayload::Row(_) => Err(of_kind(Kind::TupleVariant)),
+            PlainPayload::Table(pairs) => Ok(PlainEntries {
+                taken: 0,
+                waiting: None,
+                entries: pairs.into_iter(),
+            }),
+        }
+    }
+
+    fn leave_payload(
+        _variant: &mut PlainPayload,
+        _held: bool,
+        _failed: bool,
+        _track: &mut Track,
+    ) -> Result<(), PlainError> {
         Ok(())
     }
 }

@@ -8,6 +8,7 @@ ghost use Rattle.shape.specs.View.{shape_view, data_view};
 
 use crate::data::{Data, DataHeld};
 use crate::entries::visit_map;
+use crate::enums::visit_enum;
 use crate::rows::{visit_prefix, visit_seq, visit_tuple};
 use crate::scalars::{
     visit_bool, visit_bytes, visit_char, visit_signed, visit_text, visit_unit, visit_unsigned,
@@ -48,6 +49,7 @@ pub fn hint(shape: &Shape) -> Hint<'_>
         Shape::Struct(name, fields) => Hint::Struct(name.as_str(), &fields.names),
         Shape::Strict(name, fields) => Hint::Struct(name.as_str(), &fields.names),
         Shape::Loose(name, fields) => Hint::Struct(name.as_str(), &fields.names),
+        Shape::Enum(name, variants) => Hint::Enum(name.as_str(), &variants.names),
     }
 }
 
@@ -80,7 +82,7 @@ pub fn visit<D: Deserializer>(
 ) -> Result<Data, D::Error>
     requires { Begins D.sequence D.table shown }
     ensures { Gives D.Error.fault D.tracks data_view result
-        (visited (shape_view shape.now) (shown_offer D.Text.text D.Bytes.bytes D.source D.sequence D.table shown))
+        (visited (shape_view shape.now) (shown_offer D.Text.text D.Bytes.bytes D.source D.sequence D.table D.choice shown))
         track.old track.new }
 {
     match shape {
@@ -103,14 +105,13 @@ pub fn visit<D: Deserializer>(
         Shape::Tuple(shapes) => visit_tuple(alloc, shapes, shown, "tuple", track),
         Shape::TupleStruct(_, shapes) => visit_tuple(alloc, shapes, shown, "tuple struct", track),
         Shape::Prefix(shapes) => visit_prefix(alloc, shapes, shown, "tuple", track),
-        Shape::PrefixStruct(_, shapes) => {
-            visit_prefix(alloc, shapes, shown, "tuple struct", track)
-        }
+        Shape::PrefixStruct(_, row) => visit_prefix(alloc, row, shown, "tuple struct", track),
         Shape::Map(shapes) => visit_map(alloc, shapes, shown, track),
         Shape::Newtype(_, inner) => visit_newtype(alloc, inner, shown, track),
         Shape::Struct(_, fields) => visit_struct(alloc, fields, true, true, shown, track),
         Shape::Strict(_, fields) => visit_struct(alloc, fields, false, true, shown, track),
         Shape::Loose(_, fields) => visit_struct(alloc, fields, false, false, shown, track),
+        Shape::Enum(_, variants) => visit_enum(alloc, variants, shown, track),
     }
 }
 
@@ -122,7 +123,7 @@ fn visit_option<D: Deserializer>(
     track: &mut Track,
 ) -> Result<Data, D::Error>
     ensures { Gives D.Error.fault D.tracks data_view result
-        (option_of (first (shape_view inner.now)) (shown_offer D.Text.text D.Bytes.bytes D.source D.sequence D.table shown))
+        (option_of (first (shape_view inner.now)) (shown_offer D.Text.text D.Bytes.bytes D.source D.sequence D.table D.choice shown))
         track.old track.new }
 {
     match shown {
@@ -146,7 +147,7 @@ fn visit_newtype<D: Deserializer>(
     track: &mut Track,
 ) -> Result<Data, D::Error>
     ensures { Gives D.Error.fault D.tracks data_view result
-        (newtype_of (first (shape_view inner.now)) (shown_offer D.Text.text D.Bytes.bytes D.source D.sequence D.table shown))
+        (newtype_of (first (shape_view inner.now)) (shown_offer D.Text.text D.Bytes.bytes D.source D.sequence D.table D.choice shown))
         track.old track.new }
 {
     match shown {

@@ -25,7 +25,7 @@ pub fn visit_seq<D: Deserializer>(
 ) -> Result<Data, D::Error>
     requires { Begins D.sequence D.table shown }
     ensures { Gives D.Error.fault D.tracks data_view result
-        (seq_of (first (shape_view inner.now)) (shown_offer D.Text.text D.Bytes.bytes D.source D.sequence D.table shown))
+        (seq_of (first (shape_view inner.now)) (shown_offer D.Text.text D.Bytes.bytes D.source D.sequence D.table D.choice shown))
         track.old track.new }
 {
     match shown {
@@ -50,7 +50,7 @@ pub fn visit_tuple<D: Deserializer>(
 ) -> Result<Data, D::Error>
     requires { Begins D.sequence D.table shown }
     ensures { Gives D.Error.fault D.tracks data_view result
-        (tuple_of (readers_of shapes.now) (shown_offer D.Text.text D.Bytes.bytes D.source D.sequence D.table shown))
+        (tuple_of (readers_of shapes.now) (shown_offer D.Text.text D.Bytes.bytes D.source D.sequence D.table D.choice shown))
         track.old track.new }
 {
     match shown {
@@ -74,7 +74,7 @@ pub fn visit_prefix<D: Deserializer>(
 ) -> Result<Data, D::Error>
     requires { Begins D.sequence D.table shown }
     ensures { Gives D.Error.fault D.tracks data_view result
-        (prefix_of (readers_of shapes.now) (shown_offer D.Text.text D.Bytes.bytes D.source D.sequence D.table shown))
+        (prefix_of (readers_of shapes.now) (shown_offer D.Text.text D.Bytes.bytes D.source D.sequence D.table D.choice shown))
         track.old track.new }
 {
     match shown {

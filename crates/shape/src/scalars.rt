@@ -17,7 +17,7 @@ use std::alloc::Global;
 /// Takes a boolean. A refusal names `bool` as what was expected.
 pub fn visit_bool<D: Deserializer>(alloc: Global, shown: Shown<D>) -> Result<Data, D::Error>
     ensures { Answers D.Error.fault data_view result
-        (boolean_of (shown_offer D.Text.text D.Bytes.bytes D.source D.sequence D.table shown)) }
+        (boolean_of (shown_offer D.Text.text D.Bytes.bytes D.source D.sequence D.table D.choice shown)) }
 {
     match shown {
         Shown::Scalar(Scalar::Bool(b)) => Ok(Data::Bool(b)),
@@ -34,7 +34,7 @@ enum Integer {
 
 // The integer that is shown, if one of up to 64 bits is.
 fn shown_integer<D: Deserializer>(shown: &Shown<D>) -> Option<Integer>
-    ensures { ShowsInteger (shown_offer D.Text.text D.Bytes.bytes D.source D.sequence D.table shown.now) result }
+    ensures { ShowsInteger (shown_offer D.Text.text D.Bytes.bytes D.source D.sequence D.table D.choice shown.now) result }
 {
     let Shown::Scalar(scalar) = shown else {
         return None;
@@ -60,7 +60,7 @@ pub fn visit_unsigned<D: Deserializer>(
     expected: &str,
 ) -> Result<Data, D::Error>
     ensures { Answers D.Error.fault data_view result
-        (unsigned_of greatest (shown_offer D.Text.text D.Bytes.bytes D.source D.sequence D.table shown)) }
+        (unsigned_of greatest (shown_offer D.Text.text D.Bytes.bytes D.source D.sequence D.table D.choice shown)) }
 {
     match shown_integer(&shown) {
         Some(Integer::Unsigned(n)) => unsigned::<D>(alloc, n, greatest, expected),
@@ -110,7 +110,7 @@ pub fn visit_signed<D: Deserializer>(
 ) -> Result<Data, D::Error>
     requires { greatest < 2 ^ 63 }
     ensures { Answers D.Error.fault data_view result
-        (signed_of greatest (shown_offer D.Text.text D.Bytes.bytes D.source D.sequence D.table shown)) }
+        (signed_of greatest (shown_offer D.Text.text D.Bytes.bytes D.source D.sequence D.table D.choice shown)) }
 {
     match shown_integer(&shown) {
         Some(Integer::Unsigned(n)) => to_signed::<D>(alloc, n, greatest, expected),
@@ -166,7 +166,7 @@ fn to_signed<D: Deserializer>(
 /// Takes a character, or a text of exactly one. A refusal names `char` as what was expected.
 pub fn visit_char<D: Deserializer>(alloc: Global, shown: Shown<D>) -> Result<Data, D::Error>
     ensures { Answers D.Error.fault data_view result
-        (character_of (shown_offer D.Text.text D.Bytes.bytes D.source D.sequence D.table shown)) }
+        (character_of (shown_offer D.Text.text D.Bytes.bytes D.source D.sequence D.table D.choice shown)) }
 {
     match shown {
         Shown::Scalar(Scalar::Char(c)) => Ok(Data::Char(c)),
@@ -188,7 +188,7 @@ fn char_of_text<D: Deserializer>(alloc: Global, text: &str) -> Result<Data, D::E
 /// Takes a text, a character, or bytes that are UTF-8. What is owned is moved, and else copied.
 pub fn visit_text<D: Deserializer>(alloc: Global, shown: Shown<D>) -> Result<Data, D::Error>
     ensures { Answers D.Error.fault data_view result
-        (text_of (shown_offer D.Text.text D.Bytes.bytes D.source D.sequence D.table shown)) }
+        (text_of (shown_offer D.Text.text D.Bytes.bytes D.source D.sequence D.table D.choice shown)) }
 {
     match shown {
         Shown::Scalar(Scalar::Text(text)) => match text.into_string(alloc) {
@@ -231,7 +231,7 @@ fn text_of_bytes<D: Deserializer>(alloc: Global, bytes: Vec<u8>) -> Result<Data,
 /// Takes bytes, and no text. What is owned is moved, and else copied.
 pub fn visit_bytes<D: Deserializer>(alloc: Global, shown: Shown<D>) -> Result<Data, D::Error>
     ensures { Answers D.Error.fault data_view result
-        (bytes_of (shown_offer D.Text.text D.Bytes.bytes D.source D.sequence D.table shown)) }
+        (bytes_of (shown_offer D.Text.text D.Bytes.bytes D.source D.sequence D.table D.choice shown)) }
 {
     match shown {
         Shown::Scalar(Scalar::Bytes(bytes)) => match bytes.into_vec(alloc) {
@@ -249,7 +249,7 @@ pub fn visit_unit<D: Deserializer>(
     expected: &str,
 ) -> Result<Data, D::Error>
     ensures { Answers D.Error.fault data_view result
-        (unit_of (shown_offer D.Text.text D.Bytes.bytes D.source D.sequence D.table shown)) }
+        (unit_of (shown_offer D.Text.text D.Bytes.bytes D.source D.sequence D.table D.choice shown)) }
 {
     match shown {
         Shown::Scalar(Scalar::Unit) => Ok(Data::Unit),

@@ -42,6 +42,8 @@ pub enum Shape {
     /// A struct, after whose elements more may come, and between whose fields others. They are read as
     /// what is ignored.
     Loose(Text, Fields),
+    /// An enum: its name and its variants.
+    Enum(Text, Variants),
 }
 
 /// The shapes of a map's keys and of its values. It is this project's own. Dropping it recurses as
@@ -60,4 +62,31 @@ pub struct MapShape {
 pub struct Fields {
     pub(crate) names: Names,
     pub(crate) shapes: Vec<Shape>,
+}
+
+/// The variants of an enum: their names, and the shape of each one's payload at the place of its name.
+/// It is this project's own. Dropping it recurses as deep as it nests.
+#[cycle(shape)]
+#[derive(Drop)]
+pub struct Variants {
+    pub(crate) names: Names,
+    pub(crate) shapes: Vec<VariantShape>,
+}
+
+/// What a reader is to read of a variant beside its name. It is this project's own. Dropping it
+/// recurses as deep as it nests.
+#[cycle(shape)]
+#[derive(Drop)]
+pub enum VariantShape {
+    Unit,
+    /// The shape of the inside.
+    Newtype(Box<Shape>),
+    /// So many elements, each of a shape of its own.
+    Tuple(Vec<Shape>),
+    /// Fields by name. No other field is taken.
+    Struct(Fields),
+    /// Fields by name. No other field is taken, in an upgraded shape too.
+    Strict(Fields),
+    /// Fields by name, between which others may come. They are read as what is ignored.
+    Loose(Fields),
 }

@@ -40,7 +40,7 @@ pub fn visit_struct<D: Deserializer>(
     requires { Begins D.sequence D.table shown }
     ensures { Gives D.Error.fault D.tracks data_view result
         (struct_of whole strict (fields_in fields.now) (readers_of fields.now.shapes.items)
-        (shown_offer D.Text.text D.Bytes.bytes D.source D.sequence D.table shown))
+        (shown_offer D.Text.text D.Bytes.bytes D.source D.sequence D.table D.choice shown))
         track.old track.new }
 {
     match shown {
@@ -78,9 +78,10 @@ fn read_positions<D: Deserializer>(
     }
 }
 
-// The value of each field, from entries in any order.
+/// The value of each field, from entries in any order. Where it is `strict`, a name that is none of
+/// the fields' is refused, and else its value is read as what is ignored.
 #[cycle(read)]
-fn read_named<D: Deserializer>(
+pub fn read_named<D: Deserializer>(
     alloc: Global,
     fields: &Fields,
     strict: bool,
@@ -203,7 +204,7 @@ fn visit_place<D: Deserializer>(
     shown: Shown<D>,
 ) -> Result<Option<usize>, D::Error>
     ensures { Answers D.Error.fault (λ place. place) result
-        (place_of_key strict (fields_in fields.now) (shown_offer D.Text.text D.Bytes.bytes D.source D.sequence D.table shown)) }
+        (place_of_key strict (fields_in fields.now) (shown_offer D.Text.text D.Bytes.bytes D.source D.sequence D.table D.choice shown)) }
 {
     match shown {
         Shown::Scalar(Scalar::Text(text)) => {

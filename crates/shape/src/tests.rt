@@ -1,7 +1,7 @@
 //! Shapes that are read from one scalar each. The wanted values are those of serde's own readers,
 //! except that bytes are read from no text.
 use crate::memory::{Plain, PlainError};
-use crate::{Data, DataMap, Fields, MapShape, Shape, ShapeSeed, hint};
+use crate::{Data, DataMap, Fields, MapShape, Payload, Shape, ShapeSeed, Variants, hint};
 use data_core::{DeError, DeserializeSeed, Fault, Hint, Scalar, Text, Track};
 use std::alloc::{AllocError, Global};
 use std::test::Fail;
@@ -28,8 +28,19 @@ fn data_text(alloc: Global, data: &Data) -> Result<String, AllocError> {
         Data::Seq(items) => row_text(alloc, items.as_slice()),
         Data::Struct(items) => row_text(alloc, items.as_slice()),
         Data::Map(pairs) => map_text(alloc, pairs),
+        Data::Enum(number, payload) => variant_text(alloc, *number, payload),
         other => part_text(alloc, other),
     }
+}
+
+fn variant_text(alloc: Global, number: usize, payload: &Payload) -> Result<String, AllocError> {
+    let held = match payload {
+        Payload::Unit => String::from_str(alloc, "unit")?,
+        Payload::Newtype(held) => part_text(alloc, held.get())?,
+        Payload::Tuple(items) => row_text(alloc, items.as_slice())?,
+        Payload::Struct(items) => row_text(alloc, items.as_slice())?,
+    };
+    format!(in alloc; "{number}: {held}")
 }
 
 fn row_text(alloc: Global, items: &[Data]) -> Result<String, AllocError> {
@@ -78,6 +89,7 @@ fn error_text(alloc: Global, error: PlainError) -> Result<String, AllocError> {
         Some(Fault::InvalidType(kind)) => format!(in alloc; "InvalidType {}", kind.as_str()),
         Some(Fault::InvalidValue(kind)) => format!(in alloc; "InvalidValue {}", kind.as_str()),
         Some(Fault::InvalidLength(len)) => format!(in alloc; "InvalidLength {len}"),
+        Some(Fault::UnknownVariant(name)) => format!(in alloc; "unknown variant {}", name.as_str()),
         Some(Fault::UnknownField(name)) => format!(in alloc; "unknown {}", name.as_str()),
         Some(Fault::MissingField(name)) => format!(in alloc; "missing {}", name.as_str()),
         Some(Fault::DuplicateField(name)) => format!(in alloc; "duplicate {}", name.as_str()),
@@ -266,6 +278,7 @@ fn hint_name<'a>(hint: Hint<'a>) -> &'a str {
         Hint::Map => "map",
         Hint::NewtypeStruct(name) => name,
         Hint::Struct(name, _) => name,
+        Hint::Enum(name, _) => name,
         _ => "another",
     }
 }
@@ -310,6 +323,10 @@ fn hopes_for_its_own_kind(rt: HostRuntime) -> Result<(), Fail> {
         (
             Shape::Struct(Text::new(rt.alloc(), "Point")?, Fields::new(rt.alloc())),
             "Point",
+        ),
+        (
+            Shape::Enum(Text::new(rt.alloc(), "Choice")?, Variants::new(rt.alloc())),
+            "Choice",
         ),
     ];
     for (shape, want) in table {

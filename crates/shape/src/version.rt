@@ -1,14 +1,15 @@
 //! Shapes of older documents.
 ghost use Rattle.std.specs.Prelude.{◌≡◌, map};
-ghost use Rattle.shape.specs.Upgraded.{upgraded};
-ghost use Rattle.shape.specs.View.{shape_view};
+ghost use Rattle.shape.specs.Upgraded.{upgraded, upgraded_payload};
+ghost use Rattle.shape.specs.View.{shape_view, variant_shape_view};
 
-use crate::shapes::{Fields, MapShape, Shape};
+use crate::shapes::{Fields, MapShape, Shape, VariantShape, Variants};
 use std::mem;
 
 /// The shape by which a document of version 1 is read: in it every tuple is a prefix, every tuple
-/// struct the prefix of one, and every struct a loose one, at every depth. It is this project's own. Takes no memory, and recurses
-/// as deep as the shape nests.
+/// struct the prefix of one, and every struct a loose one, that of a variant too, at every depth. A
+/// tuple variant keeps its size. It is this project's own. Takes no memory, and recurses as deep as
+/// the shape nests.
 #[cycle(upgrade)]
 #[tactic(auto, using(crate::proofs::Views::rows))]
 pub fn upgrade(shape: Shape) -> Shape
@@ -26,6 +27,7 @@ pub fn upgrade(shape: Shape) -> Shape
         Shape::Struct(name, fields) => Shape::Loose(name, upgrade_fields(fields)),
         Shape::Strict(name, fields) => Shape::Strict(name, upgrade_fields(fields)),
         Shape::Loose(name, fields) => Shape::Loose(name, upgrade_fields(fields)),
+        Shape::Enum(name, variants) => Shape::Enum(name, upgrade_variants(variants)),
         other => other,
     }
 }
@@ -65,6 +67,48 @@ fn upgrade_fields(fields: Fields) -> Fields
     Fields {
         names,
         shapes: upgrade_all(shapes),
+    }
+}
+
+// The variants of an enum, whose names stay.
+#[cycle(upgrade)]
+fn upgrade_variants(variants: Variants) -> Variants
+    ensures names { result.names ≡ variants.names }
+    ensures shapes { map variant_shape_view result.shapes.items ≡ map (λ shape. upgraded_payload (variant_shape_view shape)) variants.shapes.items }
+{
+    let Variants { names, shapes } = variants;
+    Variants {
+        names,
+        shapes: upgrade_payloads(shapes),
+    }
+}
+
+// What is read of variants beside their names, each at its place.
+#[cycle(upgrade)]
+fn upgrade_payloads(shapes: Vec<VariantShape>) -> Vec<VariantShape>
+    ensures { map variant_shape_view result.items ≡ map (λ shape. upgraded_payload (variant_shape_view shape)) shapes.items }
+{
+    let mut shapes = shapes;
+    for i in 0..shapes.len() {
+        let shape = mem::replace(&mut shapes[i], VariantShape::Unit);
+        shapes[i] = upgrade_payload(shape);
+    }
+    shapes
+}
+
+// What is read of a variant beside its name.
+#[cycle(upgrade)]
+#[tactic(auto, using(crate::proofs::Views::rows))]
+fn upgrade_payload(shape: VariantShape) -> VariantShape
+    ensures { variant_shape_view result ≡ upgraded_payload (variant_shape_view shape) }
+{
+    match shape {
+        VariantShape::Unit => VariantShape::Unit,
+        VariantShape::Newtype(inner) => VariantShape::Newtype(upgrade_inner(inner)),
+        VariantShape::Tuple(shapes) => VariantShape::Tuple(upgrade_all(shapes)),
+        VariantShape::Struct(fields) => VariantShape::Loose(upgrade_fields(fields)),
+        VariantShape::Strict(fields) => VariantShape::Strict(upgrade_fields(fields)),
+        VariantShape::Loose(fields) => VariantShape::Loose(upgrade_fields(fields)),
     }
 }
 

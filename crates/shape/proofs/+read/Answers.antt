@@ -6,18 +6,21 @@ use Rattle.data_core.specs.declared.path.Segment.TheVariants.{Seq}
 use Rattle.data_core.specs.Ask.{identifier}
 use Rattle.data_core.specs.Source.{offer_of}
 use Rattle.data_core.specs.Table.{text_of, entry_segment, segment_of_key}
+use Rattle.data_core.specs.Choice.{variant_segment, segment_of_variant}
 use Rattle.data_core.specs.Tracking.{left, left_key}
-use Rattle.data_core.specs.Outcome.{under, and_then, given}
+use Rattle.data_core.specs.Outcome.{Outcome, under, bare, and_then, given}
 use Rattle.data_core.proofs.Refusals.{IsRefused-whole, IsRefused-here, Carries-and_then, Gives-left}
 use Rattle.data_core.specs.Sequence.{surplus}
 use Rattle.data_std.specs.Ignored.{ignored, ignored_rest, at_key}
 use Rattle.data_std.proofs.Keys.{Gives-left_key, Gives-value, Gives-and_then}
-use Rattle.shape.specs.Shape.{something, newtype_data}
-use Rattle.shape.specs.First.{asks, first, refuse_rest, unless, both, pair_of}
+use Rattle.shape.specs.Shape.{Data, something, newtype_data, enum_data, PayloadData, newtype_payload}
+use Rattle.shape.specs.First.{asks, first, refuse_rest, unless, both, pair_of, visited_payload}
+use Rattle.shape.specs.Variants.{variant_place, with_payload}
 use Rattle.shape.specs.Fields.{place_of_key, put_value}
 use Rattle.shape.specs.Steps.{one_each, beyond, all_viewed}
-use Rattle.shape.specs.View.{shape_view, readers_of, data_view, fields_in, slots_view}
-use Rattle.shape.proofs.Views.{visited_tuple, visited_tuple_struct, visited_prefix, visited_prefix_struct, visited_struct, visited_strict, visited_loose}
+use Rattle.shape.specs.View.{shape_view, variant_shape_view, readers_of, data_view, payload_view, fields_in, variants_in, slots_view}
+use Rattle.shape.proofs.Views.{visited_tuple, visited_tuple_struct, visited_prefix, visited_prefix_struct, visited_struct, visited_strict, visited_loose, visited_enum, visited_tuple_variant, visited_struct_variant, visited_strict_variant, visited_loose_variant}
+use Rattle.shape.proofs.Chosen.{chosen}
 use Rattle.shape.proofs.Places.{put_taken, put_open, put_next, put_given, Gives-dropped, all_empty}
 use Rattle.shape.proofs.Steps.{Carries-each, each_step, each_end, Carries-one_each, one_each_step, one_each_short, place_step, beyond_step, readers_at, Carries-row, Carries-rest, row_given, unless-accepted, unless-refused, Carries-value, pair_given}
 use Rattle.shape.proofs.+read.Goals as goal
@@ -50,7 +53,7 @@ reader::visit-returns-in-Prefix g t c =
 
 pub reader::visit-returns-in-PrefixStruct : goal.reader::visit-returns-in-PrefixStruct
 reader::visit-returns-in-PrefixStruct g t c =
-    let all = c.in-PrefixStruct.shapes in
+    let all = c.in-PrefixStruct.row in
     rw (c.in-PrefixStruct.is, visited_prefix_struct c.in-PrefixStruct.field-0 all) (rw c.deref-in-PrefixStruct.ensures.value at c.visit_prefix-in-PrefixStruct.ensures)
 
 pub reader::visit-returns-in-Map : goal.reader::visit-returns-in-Map
@@ -78,6 +81,11 @@ pub reader::visit-returns-in-Loose : goal.reader::visit-returns-in-Loose
 reader::visit-returns-in-Loose g t c =
     let fields = c.in-Loose.fields in
     rw (c.in-Loose.is, visited_loose c.in-Loose.field-0 fields) c.visit_struct-in-Loose.ensures
+
+pub reader::visit-returns-in-Enum : goal.reader::visit-returns-in-Enum
+reader::visit-returns-in-Enum g t c =
+    let variants = c.in-Enum.variants in
+    rw (c.in-Enum.is, visited_enum c.in-Enum.field-0 variants) c.visit_enum.ensures
 
 -- each element
 
@@ -368,3 +376,85 @@ structs::read_fields-reads-init g t c =
       clear = λ e. e;
       slots = rw empty (length-replicate (length fields) None);
     }
+
+-- a variant
+
+pub enums::read_payload-returns : goal.enums::read_payload-returns
+enums::read_payload-returns g t c segment same =
+    let de = g.D.Deserializer in
+    let own = variant_segment (de.choice c.args.variant.now).caught in
+    let payload = visited_payload (variant_shape_view c.args.shape.now) (de.choice c.args.variant.now).payload in
+    let on_way_out : c.leave_payload.new.track ≡ left de.tracks own c.holds-held.result (is_err c.take_payload-payload.result) c.take_payload-payload.new.track = search rules in
+    Gives-value g.D.Error.DeError.fault de.tracks c.holds-held.result own segment payload_view c.take_payload-payload.result payload c.args.track.now c.take_payload-payload.new.track c.leave_payload.new.track c.holds-held.ensures same c.take_payload-payload.ensures.value on_way_out
+
+pub enums::take_newtype-returns-in_err-value-clause-value : goal.enums::take_newtype-returns-in_err-value-clause-value
+enums::take_newtype-returns-in_err-value-clause-value g t c =
+    let p = err_from_is_err_and c.from_residual-in_err-value.result c.from_residual-in_err-value.ensures.1 in
+    let de = g.D.Deserializer in
+    let inside = first (shape_view c.args.inner.now) (de.source c.in_ok-d.d) in
+    rw (p.1, p.2, c.in_ok-d.ensures.hands)
+    (IsRefused-whole de.tracks (g.D.Error.DeError.fault c.in_err-value.field-0.0) inside (and_then inside (λ d. given (newtype_payload d))) c.args.track.now c.args.track.now c.read.new.track (λ e. e) (Carries-and_then inside (λ d. given (newtype_payload d))) c.in_err-value.ensures)
+
+pub enums::take_payload-returns-in-Tuple-clause-value : goal.enums::take_payload-returns-in-Tuple-clause-value
+enums::take_payload-returns-in-Tuple-clause-value g t c =
+    let offered = (g.D.Deserializer.choice c.args.variant.now).payload in
+    rw (c.in-Tuple.is, visited_tuple_variant c.in-Tuple.shapes offered) (rw c.deref-in-Tuple.ensures.value at c.take_tuple.ensures.value)
+
+pub enums::take_payload-returns-in-Struct-clause-value : goal.enums::take_payload-returns-in-Struct-clause-value
+enums::take_payload-returns-in-Struct-clause-value g t c =
+    let offered = (g.D.Deserializer.choice c.args.variant.now).payload in
+    rw (c.in-Struct.is, visited_struct_variant c.in-Struct.fields offered) c.take_struct.ensures.value
+
+pub enums::take_payload-returns-in-Strict-clause-value : goal.enums::take_payload-returns-in-Strict-clause-value
+enums::take_payload-returns-in-Strict-clause-value g t c =
+    let offered = (g.D.Deserializer.choice c.args.variant.now).payload in
+    rw (c.in-Strict.is, visited_strict_variant c.in-Strict.fields offered) c.take_struct-in-Strict.ensures.value
+
+pub enums::take_payload-returns-in-Loose-clause-value : goal.enums::take_payload-returns-in-Loose-clause-value
+enums::take_payload-returns-in-Loose-clause-value g t c =
+    let offered = (g.D.Deserializer.choice c.args.variant.now).payload in
+    rw (c.in-Loose.is, visited_loose_variant c.in-Loose.fields offered) c.take_struct-in-Loose.ensures.value
+
+pub enums::read_variant-returns-in_err-place : goal.enums::read_variant-returns-in_err-place
+enums::read_variant-returns-in_err-place g t c =
+    let p = err_from_is_err_and c.from_residual.result c.from_residual.ensures.1 in
+    let de = g.D.Deserializer in
+    let variants = variants_in c.args.variants.now in
+    let name = de.source c.args.name in
+    let place = bare (variant_place variants (offer_of name identifier)) in
+    let next = with_payload variants (segment_of_variant identifier name) (de.choice c.args.variant.now).payload in
+    rw (p.1, p.2)
+    (IsRefused-whole de.tracks (g.D.Error.DeError.fault c.in_err-place.field-0.0) place (and_then place next) c.args.track.now c.args.track.now c.read_name.new.track (λ e. e) (Carries-and_then place next) c.in_err-place.ensures.value)
+
+pub enums::read_variant-returns-in_err-payload : goal.enums::read_variant-returns-in_err-payload
+enums::read_variant-returns-in_err-payload g t c =
+    let p = err_from_is_err_and c.from_residual-in_err-payload.result c.from_residual-in_err-payload.ensures.1 in
+    let de = g.D.Deserializer in
+    let all = c.args.variants.now in
+    let name = de.source c.args.name in
+    let place = bare (variant_place (variants_in all) (offer_of name identifier)) in
+    let segment = segment_of_variant identifier name in
+    let offered = (de.choice c.args.variant.now).payload in
+    let read = c.in_ok-place.ensures.value in
+    let payload : (de.choice c.read_name.new.variant).payload ≡ offered = search rules in
+    let same : de.tracks ≡ true → segment ≡ variant_segment (de.choice c.read_name.new.variant).caught = λ t. search rules in
+    let refusal = rw payload at c.in_err-payload.ensures segment same in
+    let held = under segment (visited_payload (variant_shape_view c.index.result.now) offered) in
+    let next : PayloadData → Outcome Data = λ d. given (enum_data c.in_ok-place.place d) in
+    rw (p.1, p.2, chosen all.names all.shapes.items segment offered place c.in_ok-place.place c.index.result.now read.0 c.in_ok-place.ensures.within c.index.ensures)
+    (IsRefused-whole de.tracks (g.D.Error.DeError.fault c.in_err-payload.field-0.0) held (and_then held next) c.args.track.now c.read_name.new.track c.read_payload.new.track read.1 (Carries-and_then held next) refusal)
+
+pub enums::read_variant-returns : goal.enums::read_variant-returns
+enums::read_variant-returns g t c =
+    let de = g.D.Deserializer in
+    let all = c.args.variants.now in
+    let name = de.source c.args.name in
+    let place = bare (variant_place (variants_in all) (offer_of name identifier)) in
+    let segment = segment_of_variant identifier name in
+    let offered = (de.choice c.args.variant.now).payload in
+    let read = c.in_ok-place.ensures.value in
+    let payload : (de.choice c.read_name.new.variant).payload ≡ offered = search rules in
+    let same : de.tracks ≡ true → segment ≡ variant_segment (de.choice c.read_name.new.variant).caught = λ t. search rules in
+    let taken = rw payload at c.in_ok-payload.ensures segment same in
+    rw (chosen all.names all.shapes.items segment offered place c.in_ok-place.place c.index.result.now read.0 c.in_ok-place.ensures.within c.index.ensures, taken.0)
+    (refl, λ e. taken.1 (read.1 e))

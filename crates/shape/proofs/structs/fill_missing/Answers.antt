@@ -1,4 +1,4 @@
-use Rattle.std.proofs.Common.{sym, length, ◌∙◌, arith}
+use Rattle.std.proofs.Common.{sym, ◌∙◌, arith}
 use Rattle.shape.proofs.Places.{length_fields, nothing_at, missing_at}
 use Rattle.shape.proofs.structs.fill_missing.Goals as goal
 

@@ -2,10 +2,8 @@ use Rattle.std.proofs.Common.{rules, arith, ◌≡◌, ◌∙◌, ◌+◌, ◌<�
 use Rattle.std.specs.Vec.Iter.{into_iter_items}
 use Rattle.std.proofs.lemmas.Result.{err_from_is_err_and}
 use Rattle.std.proofs.lemmas.List.{nil_from_length, length-append, append-nil}
-use Rattle.data_core.specs.Outcome.{AnswersErr, given}
 use Rattle.shape.specs.Fields.{completed}
 use Rattle.shape.specs.View.{fields_in, slots_view, slot_view, data_view}
-use Rattle.shape.proofs.Steps.{front}
 use Rattle.shape.proofs.Places.{front_none, completed_step, completed_stops, completed_end}
 use Rattle.shape.proofs.structs.finish.Goals as goal
 

@@ -1,7 +1,4 @@
-use Rattle.std.proofs.Common.{rules}
 use Rattle.std.proofs.lemmas.Result.{err_from_is_err_and}
-use Rattle.data_core.specs.Outcome.{under}
-use Rattle.data_std.specs.Ignored.{ignored}
 use Rattle.shape.proofs.Ignores.{ignores-refused, ignores-given}
 use Rattle.shape.proofs.structs.ignore_value.Goals as goal
 

@@ -1,0 +1,76 @@
+//! The variants of an enum.
+ghost use Rattle.std.specs.Prelude.{◌≡◌, ◌++◌, ◌∷◌, ◌==◌, [], length, OnOk, IfErr};
+ghost use Rattle.shape.specs.Variants.{place_of_variant};
+ghost use Rattle.shape.specs.View.{variants_in};
+
+use crate::fields::place_among;
+use crate::shapes::{VariantShape, Variants};
+use data_core::{Names, Text};
+use std::alloc::Global;
+
+impl Variants {
+    /// No variants. Takes no memory.
+    pub fn new(alloc: Global) -> Variants
+        ensures names { result.names ≡ [] }
+        ensures shapes { result.shapes.items ≡ [] }
+    {
+        Variants {
+            names: Names::new(alloc),
+            shapes: Vec::new(alloc),
+        }
+    }
+
+    /// Adds a variant at the end. It fails for want of memory alone: both parts then come back, and the
+    /// variants are as before.
+    pub fn push(&mut self, name: Text, shape: VariantShape) -> Result<(), (Text, VariantShape)>
+        ensures names { OnOk result (self.new.names ≡ self.old.names ++ name ∷ []) }
+        ensures shapes { OnOk result (self.new.shapes.items ≡ self.old.shapes.items ++ shape ∷ []) }
+        ensures back { IfErr result (λ back. (back.0 ≡ name) × (back.1 ≡ shape)) }
+        ensures unchanged { IfErr result (λ back. (self.new.names ≡ self.old.names) × (self.new.shapes.items ≡ self.old.shapes.items)) }
+    {
+        let last = self.shapes.len();
+        if let Err(failed) = self.shapes.push(shape) {
+            return Err((name, failed.value));
+        }
+        match self.names.push(name) {
+            Ok(()) => Ok(()),
+            Err(name) => Err((name, self.shapes.remove(last))),
+        }
+    }
+
+    /// How many variants there are. Takes no memory.
+    #[tactic(auto, using(crate::proofs::Places::length_variants))]
+    pub fn len(&self) -> usize
+        ensures { result ≡ length (variants_in self.now) }
+    {
+        self.names.len().min(self.shapes.len())
+    }
+
+    /// Whether there is no variant. Takes no memory.
+    pub fn is_empty(&self) -> bool
+        ensures { result ≡ (length (variants_in self.now) == 0) }
+    {
+        self.len() == 0
+    }
+
+    /// The names of the variants in order, lent. Takes no memory.
+    pub fn names(&self) -> &Names
+        ensures { result.now ≡ self.now.names }
+    {
+        &self.names
+    }
+
+    /// The shapes of the variants' payloads in order, lent. Takes no memory.
+    pub fn shapes(&self) -> &[VariantShape]
+        ensures { result.now ≡ self.now.shapes.items }
+    {
+        self.shapes.as_slice()
+    }
+
+    /// The place of the first variant of a name, counted from 0. Takes no memory.
+    pub fn find(&self, name: &str) -> Option<usize>
+        ensures { result ≡ place_of_variant name.now (variants_in self.now) }
+    {
+        place_among(&self.names, self.shapes.len(), name)
+    }
+}
