@@ -3,19 +3,28 @@ use Rattle.std.proofs.Common.{◌≡◌, ◌∙◌, ℕ, zero, suc, ◌+◌, Boo
 use Rattle.data_core.specs.declared.fault.Fault.TheVariants.{InvalidLength}
 use Rattle.data_core.specs.declared.path.Segment.{Segment}
 use Rattle.data_core.specs.Ask.{Ask, identifier}
-use Rattle.data_core.specs.Node.{Node, Nodes, no_nodes, Pairs, no_pairs, pair, plain, wrapped, inside, of_node, of_nodes, of_pairs}
+use Rattle.data_core.specs.Node.{Node, Nodes, no_nodes, Pairs, no_pairs, pair, own_kind, no_payload, payload_of, plain, wrapped, inside, chosen, of_node, of_nodes, of_pairs}
 use Rattle.data_core.specs.Node as node
-use Rattle.data_core.specs.Source.{Source, count, resolved, offer_of}
+use Rattle.data_core.specs.Source.{Source, Offer, count, resolved, offer_of}
+use Rattle.data_core.specs.Wanted.{Wanted}
+use Rattle.data_core.specs.Wanted as wanted
+use Rattle.data_core.specs.Choice.{variant_segment, segment_of_variant}
 use Rattle.data_core.specs.Sequence.{surplus}
 use Rattle.data_core.specs.Table.{text_of as text_caught, entry_segment, segment_of_key}
 use Rattle.data_core.specs.Pairs.{put}
-use Rattle.data_core.specs.Outcome.{Outcome, given, refused, and_then}
+use Rattle.data_core.specs.Outcome.{Outcome, given, refused, bare, and_then}
 use Rattle.data_std.specs.Ignored.{ignored, ignored_rest, ignored_entries, at_key}
 use Rattle.shape.specs.Fields.{Field, fields_of, place_of, known, place_of_key, put_field, put_value, no_values, field_step, each_field, filled, completed, named}
 use Rattle.shape.specs.DataOrder.{data_order}
-use Rattle.shape.specs.Shape.{Shape, boolean, u8, u16, u32, u64, i8, i16, i32, i64, character, text, bytes, unit, unit_struct, option, seq, tuple, tuple_struct, prefix, prefix_struct, map, newtype, struct, strict, loose, Shapes, no_shapes, shape, Data, newtype_data}
-use Rattle.shape.specs.First.{first, asks, readers, boolean_of, unsigned_of, signed_of, character_of, text_of, bytes_of, unit_of, option_of, each, seq_of, row_of, unless, tuple_of, prefix_of, pair_of, each_entry, map_of, newtype_of, rest_of_row, struct_of}
-use Rattle.capture.specs.FirstTree.{first_tree, tree_readers, integer_in, unsigned_up_to, signed_up_to, in_option, each_tree, number, left_over, row_tree, in_seq, text_in, entry_at, each_pair, in_map, held_in, place_in, dropped, named_pair, each_named, named_tree, in_struct}
+use Rattle.shape.specs.Shape.{Shape, boolean, u8, u16, u32, u64, i8, i16, i32, i64, character, text, bytes, unit, unit_struct, option, seq, tuple, tuple_struct, prefix, prefix_struct, map, newtype, struct, strict, loose, enum, Shapes, no_shapes, shape, number_of, Payloads, no_payloads, payload, PayloadShape, unit_variant, newtype_variant, tuple_variant, struct_variant, strict_variant, loose_variant, Data, newtype_data, newtype_payload}
+use Rattle.shape.specs.First.{first, asks, readers, boolean_of, unsigned_of, signed_of, character_of, text_of, bytes_of, unit_of, option_of, each, seq_of, row_of, unless, tuple_of, prefix_of, pair_of, each_entry, map_of, newtype_of, rest_of_row, struct_of, unit_payload_of, newtype_payload_of, tuple_payload_of, struct_payload_of, enum_of, visited_payload, payload_readers}
+use Rattle.shape.specs.Variants.{Variant, variants_of, place_of_variant, variant_place, known_variant, at_variant, with_payload}
+use Rattle.capture.specs.FirstTree.{first_tree, tree_readers, integer_in, unsigned_up_to, signed_up_to, in_option, each_tree, number, left_over, row_tree, in_seq, text_in, entry_at, each_pair, in_map, held_in, field_in, dropped, named_pair, each_named, named_tree, in_struct, variant_in, chosen_by, in_enum, nothing_in, row_in, fields_in, payload_tree, payload_tree_readers}
+
+-- what is offered for a payload, or for the want of it
+abbrev offered : Option Node → Wanted → Offer
+offered None = no_payload
+offered (Some t) = payload_of (own_kind t) (of_node t) (plain t)
 
 -- what a reader makes of a node as it is shown for every ask but an option's
 record Agrees (t : Node) : Type 0 where
@@ -31,31 +40,35 @@ record Agrees (t : Node) : Type 0 where
   maps : (a : Ask) (key value : Source → Outcome Data) → map_of a key value (plain t) ≡ in_map (λ ts. each_entry a key value [] (of_pairs ts)) t
   structs : (whole exact : Bool) (fields : List (Field Source)) (reads : List (Source → Outcome Data)) → struct_of whole exact fields reads (plain t) ≡ in_struct (λ ts. row_of (rest_of_row whole true) reads 0 (of_nodes ts)) (λ ts. named exact fields (of_pairs ts)) t
   tuples : (reads : List (Source → Outcome Data)) → tuple_of reads (plain t) ≡ in_seq (λ ts. row_of (λ i left. unless (surplus true i left)) reads 0 (of_nodes ts)) t
+  nothings : unit_payload_of (offered (Some t) wanted.unit) ≡ nothing_in (Some t)
+  insides : (read : Source → Outcome Data) → newtype_payload_of read (offered (Some t) wanted.newtype) ≡ and_then (read (of_node t)) (λ d. given (newtype_payload d))
+  tuple_payloads : (reads : List (Source → Outcome Data)) (n : ℕ) → tuple_payload_of reads (offered (Some t) (wanted.tuple n)) ≡ row_in (λ ts. row_of (λ i left. unless (surplus true i left)) reads 0 (of_nodes ts)) (Some t)
+  struct_payloads : (exact : Bool) (fields : List (Field Source)) (names : List (List ℕ)) → struct_payload_of exact fields (offered (Some t) (wanted.struct names)) ≡ fields_in (λ ts. named exact fields (of_pairs ts)) (Some t)
   prefixes : (reads : List (Source → Outcome Data)) → prefix_of reads (plain t) ≡ in_seq (λ ts. row_of ignored_rest reads 0 (of_nodes ts)) t
 
 agrees : (t : Node) → Agrees t
-agrees (node.boolean b) = record { booleans = refl; unsigned_integers = λ g. refl; signed_integers = λ g. refl; characters = refl; texts = refl; byte_strings = refl; units = refl; unit_structs = λ name. refl; sequences = λ read. refl; maps = λ a key value. refl; structs = λ whole exact fields reads. refl; tuples = λ reads. refl; prefixes = λ reads. refl }
-agrees (node.u8 n) = record { booleans = refl; unsigned_integers = λ g. refl; signed_integers = λ g. refl; characters = refl; texts = refl; byte_strings = refl; units = refl; unit_structs = λ name. refl; sequences = λ read. refl; maps = λ a key value. refl; structs = λ whole exact fields reads. refl; tuples = λ reads. refl; prefixes = λ reads. refl }
-agrees (node.u16 n) = record { booleans = refl; unsigned_integers = λ g. refl; signed_integers = λ g. refl; characters = refl; texts = refl; byte_strings = refl; units = refl; unit_structs = λ name. refl; sequences = λ read. refl; maps = λ a key value. refl; structs = λ whole exact fields reads. refl; tuples = λ reads. refl; prefixes = λ reads. refl }
-agrees (node.u32 n) = record { booleans = refl; unsigned_integers = λ g. refl; signed_integers = λ g. refl; characters = refl; texts = refl; byte_strings = refl; units = refl; unit_structs = λ name. refl; sequences = λ read. refl; maps = λ a key value. refl; structs = λ whole exact fields reads. refl; tuples = λ reads. refl; prefixes = λ reads. refl }
-agrees (node.u64 n) = record { booleans = refl; unsigned_integers = λ g. refl; signed_integers = λ g. refl; characters = refl; texts = refl; byte_strings = refl; units = refl; unit_structs = λ name. refl; sequences = λ read. refl; maps = λ a key value. refl; structs = λ whole exact fields reads. refl; tuples = λ reads. refl; prefixes = λ reads. refl }
-agrees (node.i8 (pos n)) = record { booleans = refl; unsigned_integers = λ g. refl; signed_integers = λ g. refl; characters = refl; texts = refl; byte_strings = refl; units = refl; unit_structs = λ name. refl; sequences = λ read. refl; maps = λ a key value. refl; structs = λ whole exact fields reads. refl; tuples = λ reads. refl; prefixes = λ reads. refl }
-agrees (node.i8 (negsuc n)) = record { booleans = refl; unsigned_integers = λ g. refl; signed_integers = λ g. refl; characters = refl; texts = refl; byte_strings = refl; units = refl; unit_structs = λ name. refl; sequences = λ read. refl; maps = λ a key value. refl; structs = λ whole exact fields reads. refl; tuples = λ reads. refl; prefixes = λ reads. refl }
-agrees (node.i16 (pos n)) = record { booleans = refl; unsigned_integers = λ g. refl; signed_integers = λ g. refl; characters = refl; texts = refl; byte_strings = refl; units = refl; unit_structs = λ name. refl; sequences = λ read. refl; maps = λ a key value. refl; structs = λ whole exact fields reads. refl; tuples = λ reads. refl; prefixes = λ reads. refl }
-agrees (node.i16 (negsuc n)) = record { booleans = refl; unsigned_integers = λ g. refl; signed_integers = λ g. refl; characters = refl; texts = refl; byte_strings = refl; units = refl; unit_structs = λ name. refl; sequences = λ read. refl; maps = λ a key value. refl; structs = λ whole exact fields reads. refl; tuples = λ reads. refl; prefixes = λ reads. refl }
-agrees (node.i32 (pos n)) = record { booleans = refl; unsigned_integers = λ g. refl; signed_integers = λ g. refl; characters = refl; texts = refl; byte_strings = refl; units = refl; unit_structs = λ name. refl; sequences = λ read. refl; maps = λ a key value. refl; structs = λ whole exact fields reads. refl; tuples = λ reads. refl; prefixes = λ reads. refl }
-agrees (node.i32 (negsuc n)) = record { booleans = refl; unsigned_integers = λ g. refl; signed_integers = λ g. refl; characters = refl; texts = refl; byte_strings = refl; units = refl; unit_structs = λ name. refl; sequences = λ read. refl; maps = λ a key value. refl; structs = λ whole exact fields reads. refl; tuples = λ reads. refl; prefixes = λ reads. refl }
-agrees (node.i64 (pos n)) = record { booleans = refl; unsigned_integers = λ g. refl; signed_integers = λ g. refl; characters = refl; texts = refl; byte_strings = refl; units = refl; unit_structs = λ name. refl; sequences = λ read. refl; maps = λ a key value. refl; structs = λ whole exact fields reads. refl; tuples = λ reads. refl; prefixes = λ reads. refl }
-agrees (node.i64 (negsuc n)) = record { booleans = refl; unsigned_integers = λ g. refl; signed_integers = λ g. refl; characters = refl; texts = refl; byte_strings = refl; units = refl; unit_structs = λ name. refl; sequences = λ read. refl; maps = λ a key value. refl; structs = λ whole exact fields reads. refl; tuples = λ reads. refl; prefixes = λ reads. refl }
-agrees (node.character c) = record { booleans = refl; unsigned_integers = λ g. refl; signed_integers = λ g. refl; characters = refl; texts = refl; byte_strings = refl; units = refl; unit_structs = λ name. refl; sequences = λ read. refl; maps = λ a key value. refl; structs = λ whole exact fields reads. refl; tuples = λ reads. refl; prefixes = λ reads. refl }
-agrees (node.string s) = record { booleans = refl; unsigned_integers = λ g. refl; signed_integers = λ g. refl; characters = refl; texts = refl; byte_strings = refl; units = refl; unit_structs = λ name. refl; sequences = λ read. refl; maps = λ a key value. refl; structs = λ whole exact fields reads. refl; tuples = λ reads. refl; prefixes = λ reads. refl }
-agrees node.unit = record { booleans = refl; unsigned_integers = λ g. refl; signed_integers = λ g. refl; characters = refl; texts = refl; byte_strings = refl; units = refl; unit_structs = λ name. refl; sequences = λ read. refl; maps = λ a key value. refl; structs = λ whole exact fields reads. refl; tuples = λ reads. refl; prefixes = λ reads. refl }
-agrees node.none = record { booleans = refl; unsigned_integers = λ g. refl; signed_integers = λ g. refl; characters = refl; texts = refl; byte_strings = refl; units = refl; unit_structs = λ name. refl; sequences = λ read. refl; maps = λ a key value. refl; structs = λ whole exact fields reads. refl; tuples = λ reads. refl; prefixes = λ reads. refl }
-agrees (node.some t) = record { booleans = refl; unsigned_integers = λ g. refl; signed_integers = λ g. refl; characters = refl; texts = refl; byte_strings = refl; units = refl; unit_structs = λ name. refl; sequences = λ read. refl; maps = λ a key value. refl; structs = λ whole exact fields reads. refl; tuples = λ reads. refl; prefixes = λ reads. refl }
-agrees (node.newtype t) = record { booleans = refl; unsigned_integers = λ g. refl; signed_integers = λ g. refl; characters = refl; texts = refl; byte_strings = refl; units = refl; unit_structs = λ name. refl; sequences = λ read. refl; maps = λ a key value. refl; structs = λ whole exact fields reads. refl; tuples = λ reads. refl; prefixes = λ reads. refl }
-agrees (node.seq ts) = record { booleans = refl; unsigned_integers = λ g. refl; signed_integers = λ g. refl; characters = refl; texts = refl; byte_strings = refl; units = refl; unit_structs = λ name. refl; sequences = λ read. refl; maps = λ a key value. refl; structs = λ whole exact fields reads. refl; tuples = λ reads. refl; prefixes = λ reads. refl }
-agrees (node.map ts) = record { booleans = refl; unsigned_integers = λ g. refl; signed_integers = λ g. refl; characters = refl; texts = refl; byte_strings = refl; units = refl; unit_structs = λ name. refl; sequences = λ read. refl; maps = λ a key value. refl; structs = λ whole exact fields reads. refl; tuples = λ reads. refl; prefixes = λ reads. refl }
-agrees (node.bytes b) = record { booleans = refl; unsigned_integers = λ g. refl; signed_integers = λ g. refl; characters = refl; texts = refl; byte_strings = refl; units = refl; unit_structs = λ name. refl; sequences = λ read. refl; maps = λ a key value. refl; structs = λ whole exact fields reads. refl; tuples = λ reads. refl; prefixes = λ reads. refl }
+agrees (node.boolean b) = record { booleans = refl; unsigned_integers = λ g. refl; signed_integers = λ g. refl; characters = refl; texts = refl; byte_strings = refl; units = refl; unit_structs = λ name. refl; sequences = λ read. refl; maps = λ a key value. refl; structs = λ whole exact fields reads. refl; tuples = λ reads. refl; nothings = refl; insides = λ read. refl; tuple_payloads = λ reads n. refl; struct_payloads = λ exact fields names. refl; prefixes = λ reads. refl }
+agrees (node.u8 n) = record { booleans = refl; unsigned_integers = λ g. refl; signed_integers = λ g. refl; characters = refl; texts = refl; byte_strings = refl; units = refl; unit_structs = λ name. refl; sequences = λ read. refl; maps = λ a key value. refl; structs = λ whole exact fields reads. refl; tuples = λ reads. refl; nothings = refl; insides = λ read. refl; tuple_payloads = λ reads n. refl; struct_payloads = λ exact fields names. refl; prefixes = λ reads. refl }
+agrees (node.u16 n) = record { booleans = refl; unsigned_integers = λ g. refl; signed_integers = λ g. refl; characters = refl; texts = refl; byte_strings = refl; units = refl; unit_structs = λ name. refl; sequences = λ read. refl; maps = λ a key value. refl; structs = λ whole exact fields reads. refl; tuples = λ reads. refl; nothings = refl; insides = λ read. refl; tuple_payloads = λ reads n. refl; struct_payloads = λ exact fields names. refl; prefixes = λ reads. refl }
+agrees (node.u32 n) = record { booleans = refl; unsigned_integers = λ g. refl; signed_integers = λ g. refl; characters = refl; texts = refl; byte_strings = refl; units = refl; unit_structs = λ name. refl; sequences = λ read. refl; maps = λ a key value. refl; structs = λ whole exact fields reads. refl; tuples = λ reads. refl; nothings = refl; insides = λ read. refl; tuple_payloads = λ reads n. refl; struct_payloads = λ exact fields names. refl; prefixes = λ reads. refl }
+agrees (node.u64 n) = record { booleans = refl; unsigned_integers = λ g. refl; signed_integers = λ g. refl; characters = refl; texts = refl; byte_strings = refl; units = refl; unit_structs = λ name. refl; sequences = λ read. refl; maps = λ a key value. refl; structs = λ whole exact fields reads. refl; tuples = λ reads. refl; nothings = refl; insides = λ read. refl; tuple_payloads = λ reads n. refl; struct_payloads = λ exact fields names. refl; prefixes = λ reads. refl }
+agrees (node.i8 (pos n)) = record { booleans = refl; unsigned_integers = λ g. refl; signed_integers = λ g. refl; characters = refl; texts = refl; byte_strings = refl; units = refl; unit_structs = λ name. refl; sequences = λ read. refl; maps = λ a key value. refl; structs = λ whole exact fields reads. refl; tuples = λ reads. refl; nothings = refl; insides = λ read. refl; tuple_payloads = λ reads n. refl; struct_payloads = λ exact fields names. refl; prefixes = λ reads. refl }
+agrees (node.i8 (negsuc n)) = record { booleans = refl; unsigned_integers = λ g. refl; signed_integers = λ g. refl; characters = refl; texts = refl; byte_strings = refl; units = refl; unit_structs = λ name. refl; sequences = λ read. refl; maps = λ a key value. refl; structs = λ whole exact fields reads. refl; tuples = λ reads. refl; nothings = refl; insides = λ read. refl; tuple_payloads = λ reads n. refl; struct_payloads = λ exact fields names. refl; prefixes = λ reads. refl }
+agrees (node.i16 (pos n)) = record { booleans = refl; unsigned_integers = λ g. refl; signed_integers = λ g. refl; characters = refl; texts = refl; byte_strings = refl; units = refl; unit_structs = λ name. refl; sequences = λ read. refl; maps = λ a key value. refl; structs = λ whole exact fields reads. refl; tuples = λ reads. refl; nothings = refl; insides = λ read. refl; tuple_payloads = λ reads n. refl; struct_payloads = λ exact fields names. refl; prefixes = λ reads. refl }
+agrees (node.i16 (negsuc n)) = record { booleans = refl; unsigned_integers = λ g. refl; signed_integers = λ g. refl; characters = refl; texts = refl; byte_strings = refl; units = refl; unit_structs = λ name. refl; sequences = λ read. refl; maps = λ a key value. refl; structs = λ whole exact fields reads. refl; tuples = λ reads. refl; nothings = refl; insides = λ read. refl; tuple_payloads = λ reads n. refl; struct_payloads = λ exact fields names. refl; prefixes = λ reads. refl }
+agrees (node.i32 (pos n)) = record { booleans = refl; unsigned_integers = λ g. refl; signed_integers = λ g. refl; characters = refl; texts = refl; byte_strings = refl; units = refl; unit_structs = λ name. refl; sequences = λ read. refl; maps = λ a key value. refl; structs = λ whole exact fields reads. refl; tuples = λ reads. refl; nothings = refl; insides = λ read. refl; tuple_payloads = λ reads n. refl; struct_payloads = λ exact fields names. refl; prefixes = λ reads. refl }
+agrees (node.i32 (negsuc n)) = record { booleans = refl; unsigned_integers = λ g. refl; signed_integers = λ g. refl; characters = refl; texts = refl; byte_strings = refl; units = refl; unit_structs = λ name. refl; sequences = λ read. refl; maps = λ a key value. refl; structs = λ whole exact fields reads. refl; tuples = λ reads. refl; nothings = refl; insides = λ read. refl; tuple_payloads = λ reads n. refl; struct_payloads = λ exact fields names. refl; prefixes = λ reads. refl }
+agrees (node.i64 (pos n)) = record { booleans = refl; unsigned_integers = λ g. refl; signed_integers = λ g. refl; characters = refl; texts = refl; byte_strings = refl; units = refl; unit_structs = λ name. refl; sequences = λ read. refl; maps = λ a key value. refl; structs = λ whole exact fields reads. refl; tuples = λ reads. refl; nothings = refl; insides = λ read. refl; tuple_payloads = λ reads n. refl; struct_payloads = λ exact fields names. refl; prefixes = λ reads. refl }
+agrees (node.i64 (negsuc n)) = record { booleans = refl; unsigned_integers = λ g. refl; signed_integers = λ g. refl; characters = refl; texts = refl; byte_strings = refl; units = refl; unit_structs = λ name. refl; sequences = λ read. refl; maps = λ a key value. refl; structs = λ whole exact fields reads. refl; tuples = λ reads. refl; nothings = refl; insides = λ read. refl; tuple_payloads = λ reads n. refl; struct_payloads = λ exact fields names. refl; prefixes = λ reads. refl }
+agrees (node.character c) = record { booleans = refl; unsigned_integers = λ g. refl; signed_integers = λ g. refl; characters = refl; texts = refl; byte_strings = refl; units = refl; unit_structs = λ name. refl; sequences = λ read. refl; maps = λ a key value. refl; structs = λ whole exact fields reads. refl; tuples = λ reads. refl; nothings = refl; insides = λ read. refl; tuple_payloads = λ reads n. refl; struct_payloads = λ exact fields names. refl; prefixes = λ reads. refl }
+agrees (node.string s) = record { booleans = refl; unsigned_integers = λ g. refl; signed_integers = λ g. refl; characters = refl; texts = refl; byte_strings = refl; units = refl; unit_structs = λ name. refl; sequences = λ read. refl; maps = λ a key value. refl; structs = λ whole exact fields reads. refl; tuples = λ reads. refl; nothings = refl; insides = λ read. refl; tuple_payloads = λ reads n. refl; struct_payloads = λ exact fields names. refl; prefixes = λ reads. refl }
+agrees node.unit = record { booleans = refl; unsigned_integers = λ g. refl; signed_integers = λ g. refl; characters = refl; texts = refl; byte_strings = refl; units = refl; unit_structs = λ name. refl; sequences = λ read. refl; maps = λ a key value. refl; structs = λ whole exact fields reads. refl; tuples = λ reads. refl; nothings = refl; insides = λ read. refl; tuple_payloads = λ reads n. refl; struct_payloads = λ exact fields names. refl; prefixes = λ reads. refl }
+agrees node.none = record { booleans = refl; unsigned_integers = λ g. refl; signed_integers = λ g. refl; characters = refl; texts = refl; byte_strings = refl; units = refl; unit_structs = λ name. refl; sequences = λ read. refl; maps = λ a key value. refl; structs = λ whole exact fields reads. refl; tuples = λ reads. refl; nothings = refl; insides = λ read. refl; tuple_payloads = λ reads n. refl; struct_payloads = λ exact fields names. refl; prefixes = λ reads. refl }
+agrees (node.some t) = record { booleans = refl; unsigned_integers = λ g. refl; signed_integers = λ g. refl; characters = refl; texts = refl; byte_strings = refl; units = refl; unit_structs = λ name. refl; sequences = λ read. refl; maps = λ a key value. refl; structs = λ whole exact fields reads. refl; tuples = λ reads. refl; nothings = refl; insides = λ read. refl; tuple_payloads = λ reads n. refl; struct_payloads = λ exact fields names. refl; prefixes = λ reads. refl }
+agrees (node.newtype t) = record { booleans = refl; unsigned_integers = λ g. refl; signed_integers = λ g. refl; characters = refl; texts = refl; byte_strings = refl; units = refl; unit_structs = λ name. refl; sequences = λ read. refl; maps = λ a key value. refl; structs = λ whole exact fields reads. refl; tuples = λ reads. refl; nothings = refl; insides = λ read. refl; tuple_payloads = λ reads n. refl; struct_payloads = λ exact fields names. refl; prefixes = λ reads. refl }
+agrees (node.seq ts) = record { booleans = refl; unsigned_integers = λ g. refl; signed_integers = λ g. refl; characters = refl; texts = refl; byte_strings = refl; units = refl; unit_structs = λ name. refl; sequences = λ read. refl; maps = λ a key value. refl; structs = λ whole exact fields reads. refl; tuples = λ reads. refl; nothings = refl; insides = λ read. refl; tuple_payloads = λ reads n. refl; struct_payloads = λ exact fields names. refl; prefixes = λ reads. refl }
+agrees (node.map ts) = record { booleans = refl; unsigned_integers = λ g. refl; signed_integers = λ g. refl; characters = refl; texts = refl; byte_strings = refl; units = refl; unit_structs = λ name. refl; sequences = λ read. refl; maps = λ a key value. refl; structs = λ whole exact fields reads. refl; tuples = λ reads. refl; nothings = refl; insides = λ read. refl; tuple_payloads = λ reads n. refl; struct_payloads = λ exact fields names. refl; prefixes = λ reads. refl }
+agrees (node.bytes b) = record { booleans = refl; unsigned_integers = λ g. refl; signed_integers = λ g. refl; characters = refl; texts = refl; byte_strings = refl; units = refl; unit_structs = λ name. refl; sequences = λ read. refl; maps = λ a key value. refl; structs = λ whole exact fields reads. refl; tuples = λ reads. refl; nothings = refl; insides = λ read. refl; tuple_payloads = λ reads n. refl; struct_payloads = λ exact fields names. refl; prefixes = λ reads. refl }
 
 -- the same for an option's ask
 option_agrees : (read : Source → Outcome Data) (t : Node) → option_of read (resolved (of_node t) (wrapped t)) ≡ in_option (λ s. read (of_node s)) t
@@ -211,9 +224,33 @@ newtype_text (node.seq ts) = refl
 newtype_text (node.map ts) = refl
 newtype_text (node.bytes b) = refl
 
+-- the same for an enum's ask
+enum_text : (t : Node) → text_caught (resolved (of_node t) (chosen t)) ≡ None
+enum_text (node.boolean b) = refl
+enum_text (node.u8 n) = refl
+enum_text (node.u16 n) = refl
+enum_text (node.u32 n) = refl
+enum_text (node.u64 n) = refl
+enum_text (node.i8 z) = refl
+enum_text (node.i16 z) = refl
+enum_text (node.i32 z) = refl
+enum_text (node.i64 z) = refl
+enum_text (node.character c) = refl
+enum_text (node.string s) = refl
+enum_text node.unit = refl
+enum_text node.none = refl
+enum_text (node.some t) = refl
+enum_text (node.newtype t) = refl
+enum_text (node.seq ts) = refl
+enum_text (node.map no_pairs) = refl
+enum_text (node.map (pair k v no_pairs)) = refl
+enum_text (node.map (pair k v (pair j u ts))) = refl
+enum_text (node.bytes b) = refl
+
 entry_agrees : (a : Shape) (t : Node) → segment_of_key (asks a) (of_node t) ≡ entry_at a t
 entry_agrees (option a) t = ap entry_segment (option_text t)
 entry_agrees (newtype name a) t = ap entry_segment (newtype_text t)
+entry_agrees (enum name names held) t = ap entry_segment (enum_text t)
 entry_agrees boolean t = ap entry_segment (text_agrees t)
 entry_agrees u8 t = ap entry_segment (text_agrees t)
 entry_agrees u16 t = ap entry_segment (text_agrees t)
@@ -251,7 +288,7 @@ place_alike x [] (g ∷ gs) h = absurd h
 place_alike x (f ∷ fs) [] h = absurd h
 place_alike x (f ∷ fs) (g ∷ gs) h = rw (h.0, place_alike x fs gs h.3) refl
 
-key_alike : (exact : Bool) (fs : List (Field Source)) (gs : List (Field Node)) (k : Node) → AreAlike fs gs → place_of_key exact fs (offer_of (of_node k) identifier) ≡ place_in exact gs k
+key_alike : (exact : Bool) (fs : List (Field Source)) (gs : List (Field Node)) (k : Node) → AreAlike fs gs → place_of_key exact fs (offer_of (of_node k) identifier) ≡ field_in exact gs k
 key_alike exact fs gs (node.boolean b) h = refl
 key_alike exact fs gs (node.u8 n) h = refl
 key_alike exact fs gs (node.u16 n) h = refl
@@ -290,7 +327,7 @@ step_alike : (exact : Bool) (fs : List (Field Source)) (gs : List (Field Node)) 
     → AreAlike fs gs → field_step exact fs slots (of_node k) (of_node v) ≡ named_pair exact gs slots k v
 step_alike exact fs gs slots k v h =
     rw (ap entry_segment (text_agrees k), key_alike exact fs gs k h)
-    (ap (and_then (at_key (entry_segment (text_in k)) (place_in exact gs k))) (λ i place. value_alike (entry_segment (text_in k)) v slots fs gs place h i))
+    (ap (and_then (at_key (entry_segment (text_in k)) (field_in exact gs k))) (λ i place. value_alike (entry_segment (text_in k)) v slots fs gs place h i))
 
 each_alike : (exact : Bool) (fs : List (Field Source)) (gs : List (Field Node)) (slots : List (Option Data)) (ts : Pairs)
     → AreAlike fs gs → each_field exact fs slots (of_pairs ts) ≡ each_named exact gs slots ts
@@ -328,6 +365,79 @@ entries_agree a at key value tree_key tree_value same keys values ps no_pairs = 
 entries_agree a at key value tree_key tree_value same keys values ps (pair k v ts) =
     rw (same k, keys k, values v) (ap (and_then (pair_of (at k) (tree_key k) (tree_value v))) (λ i p. entries_agree a at key value tree_key tree_value same keys values (put data_order p.0 p.1 ps) ts i))
 
+-- variants that are alike, over sources and over trees
+abbrev VariantsAlike : List (Variant (Wanted → Offer)) → List (Variant (Option Node)) → Type 0
+VariantsAlike [] [] = Unit {0}
+VariantsAlike [] (w ∷ ws) = ⊥
+VariantsAlike (v ∷ vs) [] = ⊥
+VariantsAlike (v ∷ vs) (w ∷ ws) = (v.name ≡ w.name) × ((t : Option Node) → v.read (offered t) ≡ w.read t) × VariantsAlike vs ws
+
+variant_places_alike : (vs : List (Variant (Wanted → Offer))) (ws : List (Variant (Option Node))) → VariantsAlike vs ws → (t : List ℕ) → place_of_variant t vs ≡ place_of_variant t ws
+variant_places_alike [] [] h t = refl
+variant_places_alike [] (w ∷ ws) h t = absurd h
+variant_places_alike (v ∷ vs) [] h t = absurd h
+variant_places_alike (v ∷ vs) (w ∷ ws) h t = rw (h.0, variant_places_alike vs ws h.2 t) refl
+
+name_alike : (vs : List (Variant (Wanted → Offer))) (ws : List (Variant (Option Node))) (k : Node) → VariantsAlike vs ws → variant_place vs (offer_of (of_node k) identifier) ≡ variant_in ws k
+name_alike vs ws (node.boolean b) h = refl
+name_alike vs ws (node.u8 n) h = refl
+name_alike vs ws (node.u16 n) h = refl
+name_alike vs ws (node.u32 n) h = refl
+name_alike vs ws (node.u64 n) h = refl
+name_alike vs ws (node.i8 z) h = refl
+name_alike vs ws (node.i16 z) h = refl
+name_alike vs ws (node.i32 z) h = refl
+name_alike vs ws (node.i64 z) h = refl
+name_alike vs ws (node.character c) h = ap (known_variant (encode_utf8 c)) (variant_places_alike vs ws h (encode_utf8 c))
+name_alike vs ws (node.string s) h = ap (known_variant s) (variant_places_alike vs ws h s)
+name_alike vs ws node.unit h = refl
+name_alike vs ws node.none h = refl
+name_alike vs ws (node.some t) h = refl
+name_alike vs ws (node.newtype t) h = refl
+name_alike vs ws (node.seq ts) h = refl
+name_alike vs ws (node.map ts) h = refl
+name_alike vs ws (node.bytes b) h = refl
+
+payload_alike : (segment : Segment) (there : Option Node) (place i : ℕ) (vs : List (Variant (Wanted → Offer))) (ws : List (Variant (Option Node)))
+    → VariantsAlike vs ws → at_variant segment (offered there) place (slice_get vs i) ≡ at_variant segment there place (slice_get ws i)
+payload_alike segment there place i [] [] h = refl
+payload_alike segment there place i [] (w ∷ ws) h = absurd h
+payload_alike segment there place i (v ∷ vs) [] h = absurd h
+payload_alike segment there place zero (v ∷ vs) (w ∷ ws) h = rw (h.1 there) refl
+payload_alike segment there place (suc i) (v ∷ vs) (w ∷ ws) h = payload_alike segment there place i vs ws h.2
+
+chosen_alike : (vs : List (Variant (Wanted → Offer))) (ws : List (Variant (Option Node))) (k : Node) (there : Option Node)
+    → VariantsAlike vs ws → and_then (bare (variant_place vs (offer_of (of_node k) identifier))) (with_payload vs (segment_of_variant identifier (of_node k)) (offered there)) ≡ chosen_by ws k there
+chosen_alike vs ws k there h =
+    rw (ap variant_segment (text_agrees k), name_alike vs ws k h)
+    (ap (and_then (bare (variant_in ws k))) (λ i place. payload_alike (variant_segment (text_in k)) there place place vs ws h i))
+
+enum_agrees : (vs : List (Variant (Wanted → Offer))) (ws : List (Variant (Option Node))) → VariantsAlike vs ws → (t : Node) → enum_of vs (resolved (of_node t) (chosen t)) ≡ in_enum ws t
+enum_agrees vs ws h (node.boolean b) = refl
+enum_agrees vs ws h (node.u8 n) = refl
+enum_agrees vs ws h (node.u16 n) = refl
+enum_agrees vs ws h (node.u32 n) = refl
+enum_agrees vs ws h (node.u64 n) = refl
+enum_agrees vs ws h (node.i8 z) = refl
+enum_agrees vs ws h (node.i16 z) = refl
+enum_agrees vs ws h (node.i32 z) = refl
+enum_agrees vs ws h (node.i64 z) = refl
+enum_agrees vs ws h (node.character c) = refl
+enum_agrees vs ws h (node.string s) = chosen_alike vs ws (node.string s) None h
+enum_agrees vs ws h node.unit = refl
+enum_agrees vs ws h node.none = refl
+enum_agrees vs ws h (node.some t) = refl
+enum_agrees vs ws h (node.newtype t) = refl
+enum_agrees vs ws h (node.seq ts) = refl
+enum_agrees vs ws h (node.map no_pairs) = refl
+enum_agrees vs ws h (node.map (pair k v no_pairs)) = chosen_alike vs ws k (Some v) h
+enum_agrees vs ws h (node.map (pair k v (pair j u ts))) = refl
+enum_agrees vs ws h (node.bytes b) = refl
+
+struct_agrees : (exact : Bool) (fs : List (Field Source)) (gs : List (Field Node)) (names : List (List ℕ)) → AreAlike fs gs
+    → (t : Node) → struct_payload_of exact fs (offered (Some t) (wanted.struct names)) ≡ fields_in (named_tree exact gs) (Some t)
+struct_agrees exact fs gs names h t = (agrees t).struct_payloads exact fs names ∙ (λ i. fields_in (λ ts. named_alike exact fs gs ts h i) (Some t))
+
 mutual
   pub first_agrees : (a : Shape) (t : Node) → first a (of_node t) ≡ first_tree a t
   first_agrees boolean t = (agrees t).booleans
@@ -358,6 +468,8 @@ mutual
       (agrees t).structs false true (fields_of names row (readers row)) (readers row) ∙ (λ i. in_struct (λ ts. prefix_agrees row 0 ts i) (λ ts. named_alike true (fields_of names row (readers row)) (fields_of names row (tree_readers row)) ts (fields_alike names row) i) t)
   first_agrees (loose name names row) t =
       (agrees t).structs false false (fields_of names row (readers row)) (readers row) ∙ (λ i. in_struct (λ ts. prefix_agrees row 0 ts i) (λ ts. named_alike false (fields_of names row (readers row)) (fields_of names row (tree_readers row)) ts (fields_alike names row) i) t)
+  first_agrees (enum name names held) t =
+      enum_agrees (variants_of names (payload_readers held)) (variants_of names (payload_tree_readers held)) (variants_alike names held) t
   first_agrees (prefix_struct name row) t = (agrees t).prefixes (readers row) ∙ (λ i. in_seq (λ ts. prefix_agrees row 0 ts i) t)
 
   fields_alike : (names : List (List ℕ)) (row : Shapes) → AreAlike (fields_of names row (readers row)) (fields_of names row (tree_readers row))
@@ -374,3 +486,22 @@ mutual
   prefix_agrees no_shapes i ts = ignored_agrees i ts
   prefix_agrees (shape a rest) i no_nodes = refl
   prefix_agrees (shape a rest) i (node.node t ts) = rw (first_agrees a t, prefix_agrees rest (i + 1) ts) refl
+
+  variants_alike : (names : List (List ℕ)) (held : Payloads) → VariantsAlike (variants_of names (payload_readers held)) (variants_of names (payload_tree_readers held))
+  variants_alike [] held = tt
+  variants_alike (n ∷ names) no_payloads = tt
+  variants_alike (n ∷ names) (payload p rest) = (refl, payload_agrees p, variants_alike names rest)
+
+  payload_agrees : (p : PayloadShape) (there : Option Node) → visited_payload p (offered there) ≡ payload_tree p there
+  payload_agrees unit_variant None = refl
+  payload_agrees unit_variant (Some t) = (agrees t).nothings
+  payload_agrees (newtype_variant a) None = refl
+  payload_agrees (newtype_variant a) (Some t) = (agrees t).insides (first a) ∙ ap (λ o. and_then o (λ d. given (newtype_payload d))) (first_agrees a t)
+  payload_agrees (tuple_variant row) None = refl
+  payload_agrees (tuple_variant row) (Some t) = (agrees t).tuple_payloads (readers row) (number_of row) ∙ (λ i. row_in (λ ts. tuple_agrees row 0 ts i) (Some t))
+  payload_agrees (struct_variant names row) None = refl
+  payload_agrees (struct_variant names row) (Some t) = struct_agrees true (fields_of names row (readers row)) (fields_of names row (tree_readers row)) names (fields_alike names row) t
+  payload_agrees (strict_variant names row) None = refl
+  payload_agrees (strict_variant names row) (Some t) = struct_agrees true (fields_of names row (readers row)) (fields_of names row (tree_readers row)) names (fields_alike names row) t
+  payload_agrees (loose_variant names row) None = refl
+  payload_agrees (loose_variant names row) (Some t) = struct_agrees false (fields_of names row (readers row)) (fields_of names row (tree_readers row)) names (fields_alike names row) t

@@ -4,9 +4,9 @@ use Rattle.serde_json.specs.Data as json
 use Rattle.serde_json.specs.Data.{Data, array, no_items, item, depth}
 use Rattle.serde_json.specs.View.{view, items_view}
 use Rattle.serde_json.specs.declared.value.Value.{Value}
-use Rattle.shape.specs.Shape.{Shape}
+use Rattle.shape.specs.Shape.{Shape, PayloadShape}
 use Rattle.capture.specs.declared.version.Version.{Version}
-use Rattle.capture.specs.Words.{Fields, together, name_in, named_in, shape_of, row_in, named_row_in, named_shape_in, named_fields_in, fields_in}
+use Rattle.capture.specs.Words.{Fields, together, name_in, named_in, shape_of, row_in, named_row_in, named_shape_in, named_fields_in, fields_in, Variants, variants_in, named_variants_in, variant_in, payload_in}
 
 pub named-two : (xs : List Value) (a b : Value) → length xs ≡ 2 → named_in (array (items_view xs)) ≡ option_map (λ name. (name, view (get_or xs 1 b))) (name_in (view (get_or xs 0 a)))
 named-two [] a b two = absurd (omega arith)
@@ -105,6 +105,47 @@ named_fields-by_name v (json.array (item n no_items)) = refl
 named_fields-by_name v (json.array (item n (item d no_items))) = named_fields_by v d (name_in n)
 named_fields-by_name v (json.array (item n (item d (item e ds)))) = refl
 named_fields-by_name v (json.object ms) = refl
+
+abbrev pub variants_under : Version → List ℕ × Data → Option (List ℕ × Variants)
+variants_under v n = option_map (λ a. with_value a n.0) (variants_in v n.1)
+
+named_variants_by : (v : Version) (d : Data) (o : Option (List ℕ)) → together o (variants_in v d) ≡ option_and_then (variants_under v) (option_map (with_value d) o)
+named_variants_by v d None = refl
+named_variants_by v d (Some name) = together_of name (variants_in v d)
+
+-- named variants, and a variant's payload, by the name and what it names
+pub named_variants-by_name : (v : Version) (d : Data) → named_variants_in v d ≡ option_and_then (variants_under v) (named_in d)
+named_variants-by_name v json.null = refl
+named_variants-by_name v (json.boolean b) = refl
+named_variants-by_name v (json.number n) = refl
+named_variants-by_name v (json.string t) = refl
+named_variants-by_name v (json.array no_items) = refl
+named_variants-by_name v (json.array (item n no_items)) = refl
+named_variants-by_name v (json.array (item n (item d no_items))) = named_variants_by v d (name_in n)
+named_variants-by_name v (json.array (item n (item d (item e ds)))) = refl
+named_variants-by_name v (json.object ms) = refl
+
+abbrev pub payload_under : Version → List ℕ × Data → Option (List ℕ × PayloadShape)
+payload_under v n = option_map (λ a. with_value a n.0) (payload_in v n.1)
+
+variant_by : (v : Version) (d : Data) (o : Option (List ℕ)) → together o (payload_in v d) ≡ option_and_then (payload_under v) (option_map (with_value d) o)
+variant_by v d None = refl
+variant_by v d (Some name) = together_of name (payload_in v d)
+
+pub variant-by_name : (v : Version) (d : Data) → variant_in v d ≡ option_and_then (payload_under v) (named_in d)
+variant-by_name v json.null = refl
+variant-by_name v (json.boolean b) = refl
+variant-by_name v (json.number n) = refl
+variant-by_name v (json.string t) = refl
+variant-by_name v (json.array no_items) = refl
+variant-by_name v (json.array (item n no_items)) = refl
+variant-by_name v (json.array (item n (item d no_items))) = variant_by v d (name_in n)
+variant-by_name v (json.array (item n (item d (item e ds)))) = refl
+variant-by_name v (json.object ms) = refl
+
+pub ruleset variants = (named_variants-by_name, depth-named)
+
+pub ruleset payloads = (variant-by_name, depth-named)
 
 pub ruleset shapes = (named_shape-by_name, depth-named)
 

@@ -1,5 +1,5 @@
 -- An answer holds no float.
-use Rattle.std.proofs.Common.{◌≡◌, ◌∙◌, ℕ, ℤ, pos, negsuc, false, List, [], ◌∷◌, ◌++◌, ◌+◌, Option, Some, None, refl}
+use Rattle.std.proofs.Common.{◌≡◌, ◌∙◌, ℕ, ℤ, pos, negsuc, false, List, [], ◌∷◌, ◌++◌, ◌+◌, Option, Some, None, slice_get, refl}
 use Rattle.serde_json.specs.Data.{Data}
 use Rattle.serde_json.specs.Find.{of_integer}
 use Rattle.serde_json.specs.Data as json
@@ -10,7 +10,7 @@ use Rattle.data_core.specs.declared.path.Segment.{Segment}
 use Rattle.data_core.specs.declared.path.Segment.TheVariants as segment
 use Rattle.data_core.specs.Outcome.{Outcome, given, refused}
 use Rattle.shape.specs.Shape as shape
-use Rattle.capture.specs.Line.{whole, each, inside_of, element_of, key_of, value_of, name_at, field_of, with_name, printed, printed_parts, printed_fields, printed_pairs, printed_payload, printed_fault, printed_segment, answer, line}
+use Rattle.capture.specs.Line.{whole, each, inside_of, Elements, element_at, elements_of, key_of, value_of, Fields, shape_at, fields_of, variant_name, payload_of, inside_of_payload, elements_of_payload, fields_of_payload, with_name, name_or_number, printed, printed_parts, printed_fields, printed_pairs, printed_payload, printed_fault, printed_segment, answer, line}
 
 each_has_none : {A : Type 0} (print : A → Data) → ((a : A) → has_float (print a) ≡ false) → (rest : List A) → items_have_float (each print rest) ≡ false
 each_has_none print none [] = refl
@@ -24,6 +24,10 @@ named_has_none : (name : Option (List ℕ)) (d : Data) → has_float d ≡ false
 named_has_none None d h = h
 named_has_none (Some name) d h = rw h refl
 
+name_has_none : (name : Option (List ℕ)) (n : ℕ) → has_float (name_or_number name n) ≡ false
+name_has_none None n = refl
+name_has_none (Some name) n = refl
+
 mutual
   printed_has_none : (a : Option shape.Shape) (d : shape.Data) → has_float (printed a d) ≡ false
   printed_has_none a (shape.boolean_data b) = refl
@@ -36,29 +40,30 @@ mutual
   printed_has_none a shape.nothing = refl
   printed_has_none a (shape.something d) = rw (printed_has_none (inside_of a) d) refl
   printed_has_none a (shape.newtype_data d) = printed_has_none (inside_of a) d
-  printed_has_none a (shape.seq_data ds) = parts_have_none a 0 ds
+  printed_has_none a (shape.seq_data ds) = parts_have_none (elements_of a) 0 ds
   printed_has_none a (shape.map_data ps) = pairs_have_none a ps
-  printed_has_none a (shape.struct_data ds) = fields_have_none a 0 ds
-  printed_has_none a (shape.enum_data n p) = payload_has_none p
+  printed_has_none a (shape.struct_data ds) = fields_have_none (fields_of a) 0 ds
+  printed_has_none a (shape.enum_data n p) = rw (name_has_none (variant_name a n) n, payload_has_none (payload_of a n) p) refl
 
-  parts_have_none : (a : Option shape.Shape) (i : ℕ) (ds : shape.Parts) → items_have_float (printed_parts a i ds) ≡ false
-  parts_have_none a i shape.no_parts = refl
-  parts_have_none a i (shape.part d ds) = rw (printed_has_none (element_of a i) d, parts_have_none a (i + 1) ds) refl
+  parts_have_none : (elements : Elements) (i : ℕ) (ds : shape.Parts) → items_have_float (printed_parts elements i ds) ≡ false
+  parts_have_none elements i shape.no_parts = refl
+  parts_have_none elements i (shape.part d ds) = rw (printed_has_none (element_at elements i) d, parts_have_none elements (i + 1) ds) refl
 
-  fields_have_none : (a : Option shape.Shape) (i : ℕ) (ds : shape.Parts) → items_have_float (printed_fields a i ds) ≡ false
-  fields_have_none a i shape.no_parts = refl
-  fields_have_none a i (shape.part d ds) =
-      rw (named_has_none (name_at a i) (printed (field_of a i) d) (printed_has_none (field_of a i) d), fields_have_none a (i + 1) ds) refl
+  fields_have_none : (fields : Fields) (i : ℕ) (ds : shape.Parts) → items_have_float (printed_fields fields i ds) ≡ false
+  fields_have_none fields i shape.no_parts = refl
+  fields_have_none fields i (shape.part d ds) =
+      let field = shape_at fields.shapes i in
+      rw (named_has_none (slice_get fields.names i) (printed field d) (printed_has_none field d), fields_have_none fields (i + 1) ds) refl
 
   pairs_have_none : (a : Option shape.Shape) (ps : shape.DataPairs) → items_have_float (printed_pairs a ps) ≡ false
   pairs_have_none a shape.no_pairs = refl
   pairs_have_none a (shape.pair k v ps) = rw (printed_has_none (key_of a) k, printed_has_none (value_of a) v, pairs_have_none a ps) refl
 
-  payload_has_none : (p : shape.PayloadData) → items_have_float (printed_payload p) ≡ false
-  payload_has_none shape.unit_payload = refl
-  payload_has_none (shape.newtype_payload d) = rw (printed_has_none None d) refl
-  payload_has_none (shape.tuple_payload ds) = rw (parts_have_none None 0 ds) refl
-  payload_has_none (shape.struct_payload ds) = rw (fields_have_none None 0 ds) refl
+  payload_has_none : (p : Option shape.PayloadShape) (d : shape.PayloadData) → items_have_float (printed_payload p d) ≡ false
+  payload_has_none p shape.unit_payload = refl
+  payload_has_none p (shape.newtype_payload d) = rw (printed_has_none (inside_of_payload p) d) refl
+  payload_has_none p (shape.tuple_payload ds) = rw (parts_have_none (elements_of_payload p) 0 ds) refl
+  payload_has_none p (shape.struct_payload ds) = rw (fields_have_none (fields_of_payload p) 0 ds) refl
 
 fault_has_none : (f : Fault) → has_float (printed_fault f) ≡ false
 fault_has_none (fault.InvalidType k) = refl

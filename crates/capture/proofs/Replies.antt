@@ -5,7 +5,6 @@ use Rattle.data_core.specs.Outside.{with_front, with_more, IsAtEnd}
 use Rattle.data_core.specs.Outcome.{Outcome, given, refused}
 use Rattle.shape.specs.Shape.{Data}
 use Rattle.capture.specs.Document.{Document}
-use Rattle.capture.specs.Line.{line}
 use Rattle.capture.specs.Run.{outcome_of, line_of, IsReply, IsAnswer, Concludes, TookFront}
 use Rattle.capture.specs.Answer.{answer_of}
 use Rattle.capture.specs.Status.{status_of, OnAnswer, OnSilence}

@@ -5,7 +5,7 @@ use Rattle.serde_json.specs.declared.value.Value.{Value}
 use Rattle.serde_json.specs.Data.{Data, object, Members, no_members, member, depth}
 use Rattle.serde_json.specs.View.{view, members_view}
 use Rattle.capture.specs.declared.version.Version.{Version}
-use Rattle.capture.specs.Words.{sole, shape_of, under_in, tagged_shape, tree_of, trees_in, entries_in, tagged_tree}
+use Rattle.capture.specs.Words.{sole, shape_of, row_in, fields_in, under_in, tagged_shape, payload_in, tagged_payload, tree_of, trees_in, entries_in, tagged_tree}
 
 abbrev Entry : Type 0
 Entry = String Global × Value
@@ -44,6 +44,14 @@ shape_of-none v no_members e = refl
 shape_of-none v (member name f no_members) e = cc
 shape_of-none v (member name f (member other g ms)) e = refl
 
+pub payload_in-sole : (v : Version) (ms : Members) (tag : List ℕ) (d : Data) → sole ms ≡ Some (tag, d) → payload_in v (object ms) ≡ tagged_payload v tag (shape_of v d) (row_in v d) (fields_in v d)
+payload_in-sole v ms tag d e = rw (sole-alone ms tag d e) refl
+
+pub payload_in-none : (v : Version) (ms : Members) → sole ms ≡ None → payload_in v (object ms) ≡ None
+payload_in-none v no_members e = refl
+payload_in-none v (member name f no_members) e = cc
+payload_in-none v (member name f (member other g ms)) e = refl
+
 pub tree_of-sole : (ms : Members) (tag : List ℕ) (d : Data) → sole ms ≡ Some (tag, d) → tree_of (object ms) ≡ tagged_tree tag d (tree_of d) (trees_in d) (entries_in d)
 tree_of-sole ms tag d e = rw (sole-alone ms tag d e) refl
 
@@ -56,4 +64,4 @@ tree_of-none (member name f (member other g ms)) e = refl
 pub depth-sole : (ms : Members) (tag : List ℕ) (d : Data) → sole ms ≡ Some (tag, d) → depth d < depth (object ms)
 depth-sole ms tag d e = rw (sole-alone ms tag d e) omega arith
 
-pub ruleset soles = (shape_of-sole, shape_of-none, tree_of-sole, tree_of-none, depth-sole)
+pub ruleset soles = (shape_of-sole, shape_of-none, payload_in-sole, payload_in-none, tree_of-sole, tree_of-none, depth-sole)

@@ -9,48 +9,29 @@ use Rattle.data_core.specs.declared.fault.Kind.TheVariants as kind
 use Rattle.data_core.specs.declared.path.Segment.{Segment}
 use Rattle.data_core.specs.declared.path.Segment.TheVariants.{Seq}
 use Rattle.data_core.specs.Only.{only}
-use Rattle.data_core.specs.Node.{Node, Nodes, no_nodes, node, Pairs, no_pairs, pair}
+use Rattle.data_core.specs.Node.{Node, Nodes, no_nodes, node, Pairs, no_pairs, pair, own_kind}
 use Rattle.data_core.specs.Node as node
-use Rattle.data_core.specs.Outcome.{Outcome, given, refused, under, and_then}
+use Rattle.data_core.specs.Outcome.{Outcome, given, refused, under, bare, and_then}
 use Rattle.data_core.specs.Pairs.{put}
 use Rattle.data_core.specs.Table.{entry_segment}
-use Rattle.shape.specs.Shape.{Shape, boolean, u8, u16, u32, u64, i8, i16, i32, i64, character, text, bytes, unit, unit_struct, option, seq, tuple, tuple_struct, prefix, prefix_struct, map, newtype, struct, strict, loose, Shapes, no_shapes, shape, Data, boolean_data, unsigned, signed, character_data, text_data, bytes_data, unit_data, nothing, something, newtype_data, map_data, pairs_of}
+use Rattle.data_core.specs.Choice.{variant_segment}
+use Rattle.shape.specs.Shape.{Shape, boolean, u8, u16, u32, u64, i8, i16, i32, i64, character, text, bytes, unit, unit_struct, option, seq, tuple, tuple_struct, prefix, prefix_struct, map, newtype, struct, strict, loose, enum, Shapes, no_shapes, shape, Payloads, no_payloads, payload, PayloadShape, unit_variant, newtype_variant, tuple_variant, struct_variant, strict_variant, loose_variant, Data, boolean_data, unsigned, signed, character_data, text_data, bytes_data, unit_data, nothing, something, newtype_data, map_data, parts_of, pairs_of, PayloadData, unit_payload, newtype_payload, tuple_payload, struct_payload}
 use Rattle.shape.specs.DataOrder.{data_order}
 use Rattle.data_std.specs.Ignored.{at_key}
 use Rattle.shape.specs.Fields.{Field, fields_of, place_of, known, put_value, no_values, completed}
+use Rattle.shape.specs.Variants.{Variant, variants_of, place_of_variant, known_variant, with_payload}
 use Rattle.shape.specs.First.{within, character_from, elements_data, pair_of, fields_data}
-
--- the kind that a node has of itself
-abbrev pub own : Node → Kind
-own (node.boolean b) = kind.Bool
-own (node.u8 n) = kind.Unsigned
-own (node.u16 n) = kind.Unsigned
-own (node.u32 n) = kind.Unsigned
-own (node.u64 n) = kind.Unsigned
-own (node.i8 z) = kind.Signed
-own (node.i16 z) = kind.Signed
-own (node.i32 z) = kind.Signed
-own (node.i64 z) = kind.Signed
-own (node.character c) = kind.Char
-own (node.string t) = kind.Str
-own node.unit = kind.Unit
-own node.none = kind.Option
-own (node.some t) = kind.Option
-own (node.newtype t) = kind.NewtypeStruct
-own (node.seq ns) = kind.Seq
-own (node.map ps) = kind.Map
-own (node.bytes b) = kind.Bytes
 
 -- the kind that a reader sees: a character's is that of its text
 abbrev pub seen : Node → Kind
 seen (node.character c) = kind.Str
-seen t = own t
+seen t = own_kind t
 
 abbrev pub refused_as_itself : Node → Outcome Data
 refused_as_itself t = refused (InvalidType (seen t)) []
 
 abbrev pub out_of_range : Node → Outcome Data
-out_of_range t = refused (InvalidValue (own t)) []
+out_of_range t = refused (InvalidValue (own_kind t)) []
 
 -- the integer that a node holds, if it holds one
 abbrev pub integer_in : Node → Option ℤ
@@ -123,10 +104,12 @@ text_in (node.i64 z) = Some (signed_decimal z)
 text_in (node.string t) = Some t
 text_in t = None
 
--- what an entry adds to a path, by the shape of its key: the key's text, which an option and a newtype hide
+-- what an entry adds to a path, by the shape of its key: the key's text, which an option, a newtype and an enum
+-- hide
 abbrev pub entry_at : Shape → Node → Segment
 entry_at (option a) k = entry_segment None
 entry_at (newtype name a) k = entry_segment None
+entry_at (enum name names held) k = entry_segment None
 entry_at a k = entry_segment (text_in k)
 
 -- each pair in order, put into those before it, up to the first fault
@@ -145,10 +128,10 @@ held_in (node.newtype t) = t
 held_in t = t
 
 -- the place of the field that a key names, by its text or its character
-abbrev pub place_in : Bool → List (Field Node) → Node → Outcome (Option ℕ)
-place_in exact fields (node.string t) = known exact t (place_of t fields)
-place_in exact fields (node.character c) = known exact (encode_utf8 c) (place_of (encode_utf8 c) fields)
-place_in exact fields k = refused (InvalidType (seen k)) []
+abbrev pub field_in : Bool → List (Field Node) → Node → Outcome (Option ℕ)
+field_in exact fields (node.string t) = known exact t (place_of t fields)
+field_in exact fields (node.character c) = known exact (encode_utf8 c) (place_of (encode_utf8 c) fields)
+field_in exact fields k = refused (InvalidType (seen k)) []
 
 -- a tree is dropped without a fault
 abbrev pub dropped : Node → Outcome (Unit {0})
@@ -157,7 +140,7 @@ dropped t = given tt
 -- a pair: its key, and then its value, put into the slot of its field
 abbrev pub named_pair : Bool → List (Field Node) → List (Option Data) → Node → Node → Outcome (List (Option Data))
 named_pair exact fields slots k v =
-    and_then (at_key (entry_segment (text_in k)) (place_in exact fields k)) (put_value dropped fields (entry_segment (text_in k)) v slots)
+    and_then (at_key (entry_segment (text_in k)) (field_in exact fields k)) (put_value dropped fields (entry_segment (text_in k)) v slots)
 
 -- each pair in order, up to the first fault
 abbrev pub each_named : Bool → List (Field Node) → List (Option Data) → Pairs → Outcome (List (Option Data))
@@ -173,6 +156,49 @@ abbrev pub in_struct : (Nodes → Outcome (List Data)) → (Pairs → Outcome (L
 in_struct by_position by_name (node.seq ts) = fields_data (by_position ts)
 in_struct by_position by_name (node.map ts) = fields_data (by_name ts)
 in_struct by_position by_name t = refused_as_itself t
+
+-- the place of the variant that a name names, by its text or its character
+abbrev pub variant_in : List (Variant (Option Node)) → Node → Outcome ℕ
+variant_in variants (node.string t) = known_variant t (place_of_variant t variants)
+variant_in variants (node.character c) = known_variant (encode_utf8 c) (place_of_variant (encode_utf8 c) variants)
+variant_in variants k = refused (InvalidType (seen k)) []
+
+-- a name, whose refusal is that of the enum itself, and then the payload, if there is one, under the
+-- variant's segment
+abbrev pub chosen_by : List (Variant (Option Node)) → Node → Option Node → Outcome Data
+chosen_by variants k there = and_then (bare (variant_in variants k)) (with_payload variants (variant_segment (text_in k)) there)
+
+-- an enum: a map of one pair is a variant and its payload, and a text a variant without one
+abbrev pub in_enum : List (Variant (Option Node)) → Node → Outcome Data
+in_enum variants (node.string t) = chosen_by variants (node.string t) None
+in_enum variants (node.map (pair k v no_pairs)) = chosen_by variants k (Some v)
+in_enum variants (node.map ts) = refused (InvalidValue kind.Map) []
+in_enum variants t = refused (InvalidType (own_kind t)) []
+
+-- a payload that is not there
+abbrev pub not_there : Outcome PayloadData
+not_there = refused (InvalidType kind.UnitVariant) []
+
+-- no payload, which a unit stands for, too
+abbrev pub nothing_in : Option Node → Outcome PayloadData
+nothing_in None = given unit_payload
+nothing_in (Some node.unit) = given unit_payload
+nothing_in (Some t) = refused (InvalidType (seen t)) []
+
+abbrev pub inside_in : (Node → Outcome Data) → Option Node → Outcome PayloadData
+inside_in read None = not_there
+inside_in read (Some t) = and_then (read t) (λ d. given (newtype_payload d))
+
+-- a tuple's payload is a sequence, and a struct's a map
+abbrev pub row_in : (Nodes → Outcome (List Data)) → Option Node → Outcome PayloadData
+row_in read None = not_there
+row_in read (Some (node.seq ts)) = and_then (read ts) (λ ds. given (tuple_payload (parts_of ds)))
+row_in read (Some t) = refused (InvalidType (own_kind t)) []
+
+abbrev pub fields_in : (Pairs → Outcome (List Data)) → Option Node → Outcome PayloadData
+fields_in read None = not_there
+fields_in read (Some (node.map ts)) = and_then (read ts) (λ ds. given (struct_payload (parts_of ds)))
+fields_in read (Some t) = refused (InvalidType (own_kind t)) []
 
 abbrev mutual
   pub first_tree : Shape → Node → Outcome Data
@@ -204,8 +230,22 @@ abbrev mutual
   first_tree (struct name names row) t = in_struct (row_tree true (tree_readers row) 0) (named_tree true (fields_of names row (tree_readers row))) t
   first_tree (strict name names row) t = in_struct (row_tree false (tree_readers row) 0) (named_tree true (fields_of names row (tree_readers row))) t
   first_tree (loose name names row) t = in_struct (row_tree false (tree_readers row) 0) (named_tree false (fields_of names row (tree_readers row))) t
+  first_tree (enum name names held) t = in_enum (variants_of names (payload_tree_readers held)) t
   first_tree s t = refused_as_itself t
 
   pub tree_readers : Shapes → List (Node → Outcome Data)
   tree_readers no_shapes = []
   tree_readers (shape a rest) = first_tree a ∷ tree_readers rest
+
+  -- what becomes of a payload, or of its want
+  pub payload_tree : PayloadShape → Option Node → Outcome PayloadData
+  payload_tree unit_variant there = nothing_in there
+  payload_tree (newtype_variant a) there = inside_in (first_tree a) there
+  payload_tree (tuple_variant row) there = row_in (row_tree true (tree_readers row) 0) there
+  payload_tree (struct_variant names row) there = fields_in (named_tree true (fields_of names row (tree_readers row))) there
+  payload_tree (strict_variant names row) there = fields_in (named_tree true (fields_of names row (tree_readers row))) there
+  payload_tree (loose_variant names row) there = fields_in (named_tree false (fields_of names row (tree_readers row))) there
+
+  pub payload_tree_readers : Payloads → List (Option Node → Outcome PayloadData)
+  payload_tree_readers no_payloads = []
+  payload_tree_readers (payload p rest) = payload_tree p ∷ payload_tree_readers rest

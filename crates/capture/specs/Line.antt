@@ -12,7 +12,7 @@ use Rattle.data_core.specs.KindName.{kind_name}
 use Rattle.data_core.specs.WordText.{word_text}
 use Rattle.data_core.specs.PathText.{path_text}
 use Rattle.data_core.specs.Outcome.{Outcome, given, refused}
-use Rattle.shape.specs.Shape.{Shape, option, seq, tuple, tuple_struct, prefix, prefix_struct, map, newtype, struct, strict, loose, Shapes, no_shapes, shape, Data, boolean_data, unsigned, signed, character_data, text_data, bytes_data, unit_data, nothing, something, newtype_data, seq_data, map_data, struct_data, enum_data, Parts, no_parts, part, DataPairs, no_pairs, pair, PayloadData, unit_payload, newtype_payload, tuple_payload, struct_payload}
+use Rattle.shape.specs.Shape.{Shape, option, seq, tuple, tuple_struct, prefix, prefix_struct, map, newtype, struct, strict, loose, enum, Shapes, no_shapes, shape, Payloads, no_payloads, payload, PayloadShape, newtype_variant, tuple_variant, struct_variant, strict_variant, loose_variant, Data, boolean_data, unsigned, signed, character_data, text_data, bytes_data, unit_data, nothing, something, newtype_data, seq_data, map_data, struct_data, enum_data, Parts, no_parts, part, DataPairs, no_pairs, pair, PayloadData, unit_payload, newtype_payload, tuple_payload, struct_payload}
 
 abbrev pub whole : ℕ → json.Data
 whole n = json.number (json.unsigned n)
@@ -34,13 +34,22 @@ shape_at no_shapes i = None
 shape_at (shape a rest) zero = Some a
 shape_at (shape a rest) (suc i) = shape_at rest i
 
-abbrev pub element_of : Option Shape → ℕ → Option Shape
-element_of (Some (seq a)) i = Some a
-element_of (Some (tuple row)) i = shape_at row i
-element_of (Some (tuple_struct name row)) i = shape_at row i
-element_of (Some (prefix row)) i = shape_at row i
-element_of (Some (prefix_struct name row)) i = shape_at row i
-element_of a i = None
+-- the shapes of elements: one of all, or one for each place
+pub data Elements : Type 0 where
+  every : Option Shape → Elements
+  row : Shapes → Elements
+
+abbrev pub element_at : Elements → ℕ → Option Shape
+element_at (every a) i = a
+element_at (row shapes) i = shape_at shapes i
+
+abbrev pub elements_of : Option Shape → Elements
+elements_of (Some (seq a)) = every (Some a)
+elements_of (Some (tuple shapes)) = row shapes
+elements_of (Some (tuple_struct name shapes)) = row shapes
+elements_of (Some (prefix shapes)) = row shapes
+elements_of (Some (prefix_struct name shapes)) = row shapes
+elements_of a = every None
 
 abbrev pub key_of : Option Shape → Option Shape
 key_of (Some (map k v)) = Some k
@@ -50,24 +59,60 @@ abbrev pub value_of : Option Shape → Option Shape
 value_of (Some (map k v)) = Some v
 value_of a = None
 
--- a field at a place: its name, and its shape
+-- the fields of a struct: their names, and the shapes at their places
+pub record Fields : Type 0 where
+  pub names : List (List ℕ)
+  pub shapes : Shapes
 
-abbrev pub name_at : Option Shape → ℕ → Option (List ℕ)
-name_at (Some (struct name names row)) i = slice_get names i
-name_at (Some (strict name names row)) i = slice_get names i
-name_at (Some (loose name names row)) i = slice_get names i
-name_at a i = None
+abbrev pub no_fields : Fields
+no_fields = record { names = []; shapes = no_shapes }
 
-abbrev pub field_of : Option Shape → ℕ → Option Shape
-field_of (Some (struct name names row)) i = shape_at row i
-field_of (Some (strict name names row)) i = shape_at row i
-field_of (Some (loose name names row)) i = shape_at row i
-field_of a i = None
+abbrev pub fields_of : Option Shape → Fields
+fields_of (Some (struct name names shapes)) = record { names = names; shapes = shapes }
+fields_of (Some (strict name names shapes)) = record { names = names; shapes = shapes }
+fields_of (Some (loose name names shapes)) = record { names = names; shapes = shapes }
+fields_of a = no_fields
+
+-- a variant: its name, and the shape of its payload
+
+abbrev pub variant_name : Option Shape → ℕ → Option (List ℕ)
+variant_name (Some (enum name names held)) n = slice_get names n
+variant_name a n = None
+
+abbrev pub payload_at : Payloads → ℕ → Option PayloadShape
+payload_at no_payloads i = None
+payload_at (payload p rest) zero = Some p
+payload_at (payload p rest) (suc i) = payload_at rest i
+
+abbrev pub payload_of : Option Shape → ℕ → Option PayloadShape
+payload_of (Some (enum name names held)) n = payload_at held n
+payload_of a n = None
+
+-- the shapes of the parts of a payload
+
+abbrev pub inside_of_payload : Option PayloadShape → Option Shape
+inside_of_payload (Some (newtype_variant a)) = Some a
+inside_of_payload p = None
+
+abbrev pub elements_of_payload : Option PayloadShape → Elements
+elements_of_payload (Some (tuple_variant shapes)) = row shapes
+elements_of_payload p = every None
+
+abbrev pub fields_of_payload : Option PayloadShape → Fields
+fields_of_payload (Some (struct_variant names shapes)) = record { names = names; shapes = shapes }
+fields_of_payload (Some (strict_variant names shapes)) = record { names = names; shapes = shapes }
+fields_of_payload (Some (loose_variant names shapes)) = record { names = names; shapes = shapes }
+fields_of_payload p = no_fields
 
 -- a field with its name
 abbrev pub with_name : Option (List ℕ) → json.Data → json.Data
 with_name None d = d
 with_name (Some name) d = json.array (item (json.string name) (item d no_items))
+
+-- a variant by its name, or by its number where it has none
+abbrev pub name_or_number : Option (List ℕ) → ℕ → json.Data
+name_or_number None n = whole n
+name_or_number (Some name) n = json.string name
 
 abbrev mutual
   -- how a value of a shape is printed
@@ -82,20 +127,21 @@ abbrev mutual
   printed a nothing = json.array no_items
   printed a (something d) = json.array (item (printed (inside_of a) d) no_items)
   printed a (newtype_data d) = printed (inside_of a) d
-  printed a (seq_data ds) = json.array (printed_parts a 0 ds)
+  printed a (seq_data ds) = json.array (printed_parts (elements_of a) 0 ds)
   printed a (map_data ps) = json.array (printed_pairs a ps)
-  printed a (struct_data ds) = json.array (printed_fields a 0 ds)
-  printed a (enum_data n p) = json.array (item (whole n) (printed_payload p))
+  printed a (struct_data ds) = json.array (printed_fields (fields_of a) 0 ds)
+  printed a (enum_data n p) = json.array (item (name_or_number (variant_name a n) n) (printed_payload (payload_of a n) p))
 
   -- elements, from a place on
-  pub printed_parts : Option Shape → ℕ → Parts → Items
-  printed_parts a i no_parts = no_items
-  printed_parts a i (part d ds) = item (printed (element_of a i) d) (printed_parts a (i + 1) ds)
+  pub printed_parts : Elements → ℕ → Parts → Items
+  printed_parts elements i no_parts = no_items
+  printed_parts elements i (part d ds) = item (printed (element_at elements i) d) (printed_parts elements (i + 1) ds)
 
   -- fields, from a place on
-  pub printed_fields : Option Shape → ℕ → Parts → Items
-  printed_fields a i no_parts = no_items
-  printed_fields a i (part d ds) = item (with_name (name_at a i) (printed (field_of a i) d)) (printed_fields a (i + 1) ds)
+  pub printed_fields : Fields → ℕ → Parts → Items
+  printed_fields fields i no_parts = no_items
+  printed_fields fields i (part d ds) =
+      item (with_name (slice_get fields.names i) (printed (shape_at fields.shapes i) d)) (printed_fields fields (i + 1) ds)
 
   -- arrays of a key and its value
   pub printed_pairs : Option Shape → DataPairs → Items
@@ -103,12 +149,12 @@ abbrev mutual
   printed_pairs a (pair k v ps) =
       item (json.array (item (printed (key_of a) k) (item (printed (value_of a) v) no_items))) (printed_pairs a ps)
 
-  -- what comes after a variant's number, if anything
-  pub printed_payload : PayloadData → Items
-  printed_payload unit_payload = no_items
-  printed_payload (newtype_payload d) = item (printed None d) no_items
-  printed_payload (tuple_payload ds) = item (json.array (printed_parts None 0 ds)) no_items
-  printed_payload (struct_payload ds) = item (json.array (printed_fields None 0 ds)) no_items
+  -- what comes after a variant's name, if anything
+  pub printed_payload : Option PayloadShape → PayloadData → Items
+  printed_payload p unit_payload = no_items
+  printed_payload p (newtype_payload d) = item (printed (inside_of_payload p) d) no_items
+  printed_payload p (tuple_payload ds) = item (json.array (printed_parts (elements_of_payload p) 0 ds)) no_items
+  printed_payload p (struct_payload ds) = item (json.array (printed_fields (fields_of_payload p) 0 ds)) no_items
 
 -- a name alone, and a name with what it is about
 abbrev pub alone : List ℕ → json.Data

@@ -8,7 +8,7 @@ use Rattle.data_core.specs.Node.{Node, nodes_of, pairs_of}
 use Rattle.data_core.specs.Node as node
 use Rattle.data_core.specs.Order.{node_order}
 use Rattle.data_core.specs.Pairs.{put_all}
-use Rattle.shape.specs.Shape.{Shape, Shapes, shapes_of}
+use Rattle.shape.specs.Shape.{Shape, Shapes, shapes_of, PayloadShape, Payloads, payloads_of}
 use Rattle.shape.specs.Upgraded.{upgraded}
 use Rattle.shape.specs.First.{within}
 use Rattle.shape.specs.Shape as shape
@@ -61,7 +61,7 @@ abbrev pub unit_struct_in : Data → Option Shape
 unit_struct_in d = option_map shape.unit_struct (name_in d)
 
 -- a word that documents of the second version alone may have
-abbrev pub since_second : Version → Option Shape → Option Shape
+abbrev pub since_second : {A : Type 0} → Version → Option A → Option A
 since_second version.First found = None
 since_second version.Second found = found
 
@@ -75,8 +75,18 @@ names_of fields = map (λ f. f.0) fields
 abbrev pub row_of_fields : Fields → Shapes
 row_of_fields fields = shapes_of (map (λ f. f.1) fields)
 
+-- names with the payloads of variants
+abbrev pub Variants : Type 0
+Variants = List (List ℕ × PayloadShape)
+
+abbrev pub variant_names : Variants → List (List ℕ)
+variant_names variants = map (λ v. v.0) variants
+
+abbrev pub row_of_variants : Variants → Payloads
+row_of_variants variants = payloads_of (map (λ v. v.1) variants)
+
 -- what may stand under the tag of a shape: a shape, a row of them, two of them, and with a name a shape, a
--- row and fields
+-- row, fields and variants
 pub record Under : Type 0 where
   pub inside : Option Shape
   pub row : Option (List Shape)
@@ -84,6 +94,7 @@ pub record Under : Type 0 where
   pub named : Option (List ℕ × Shape)
   pub named_row : Option (List ℕ × List Shape)
   pub named_fields : Option (List ℕ × Fields)
+  pub named_variants : Option (List ℕ × Variants)
 
 -- a shape under a tag, by what stands there
 abbrev pub tagged_shape : Version → List ℕ → Data → Under → Option Shape
@@ -98,15 +109,29 @@ tagged_shape v tag d under =
     if bytes_eq tag (codes "struct") then option_map (λ a. shape.struct a.0 (names_of a.1) (row_of_fields a.1)) under.named_fields else (
     if bytes_eq tag (codes "strict") then option_map (λ a. shape.strict a.0 (names_of a.1) (row_of_fields a.1)) under.named_fields else (
     if bytes_eq tag (codes "loose") then since_second v (option_map (λ a. shape.loose a.0 (names_of a.1) (row_of_fields a.1)) under.named_fields) else (
+    if bytes_eq tag (codes "enum") then option_map (λ a. shape.enum a.0 (variant_names a.1) (row_of_variants a.1)) under.named_variants else (
     if bytes_eq tag (codes "prefix") then since_second v (option_map (λ a. shape.prefix (shapes_of a)) under.row) else (
-    if bytes_eq tag (codes "prefix_struct") then since_second v (option_map (λ a. shape.prefix_struct a.0 (shapes_of a.1)) under.named_row) else None)))))))))))
+    if bytes_eq tag (codes "prefix_struct") then since_second v (option_map (λ a. shape.prefix_struct a.0 (shapes_of a.1)) under.named_row) else None))))))))))))
+
+-- a payload that has no parts
+abbrev pub word_payload : List ℕ → Option PayloadShape
+word_payload word = if bytes_eq word (codes "unit") then Some shape.unit_variant else None
+
+-- a payload under a tag, by the shape, the row and the fields that may stand there
+abbrev pub tagged_payload : Version → List ℕ → Option Shape → Option (List Shape) → Option Fields → Option PayloadShape
+tagged_payload v tag inside row fields =
+    if bytes_eq tag (codes "newtype") then option_map shape.newtype_variant inside else (
+    if bytes_eq tag (codes "tuple") then option_map (λ a. shape.tuple_variant (shapes_of a)) row else (
+    if bytes_eq tag (codes "struct") then option_map (λ a. shape.struct_variant (names_of a) (row_of_fields a)) fields else (
+    if bytes_eq tag (codes "strict") then option_map (λ a. shape.strict_variant (names_of a) (row_of_fields a)) fields else (
+    if bytes_eq tag (codes "loose") then since_second v (option_map (λ a. shape.loose_variant (names_of a) (row_of_fields a)) fields) else None))))
 
 abbrev mutual
   -- the shape that is named in a document of this version
   pub shape_of : Version → Data → Option Shape
   shape_of v (json.string word) = word_shape word
   shape_of v (json.object (member tag d no_members)) =
-      tagged_shape v tag d record { inside = shape_of v d; row = row_in v d; both = shapes_in v d; named = named_shape_in v d; named_row = named_row_in v d; named_fields = named_fields_in v d }
+      tagged_shape v tag d record { inside = shape_of v d; row = row_in v d; both = shapes_in v d; named = named_shape_in v d; named_row = named_row_in v d; named_fields = named_fields_in v d; named_variants = named_variants_in v d }
   shape_of v d = None
 
   -- an array of shapes
@@ -147,9 +172,32 @@ abbrev mutual
   fields_of v no_items = Some []
   fields_of v (item d ds) = option_and_then (λ f. option_map (λ fields. f ∷ fields) (fields_of v ds)) (named_shape_in v d)
 
+  -- a name and an array of variants, in an array of the two
+  pub named_variants_in : Version → Data → Option (List ℕ × Variants)
+  named_variants_in v (json.array (item n (item d no_items))) = together (name_in n) (variants_in v d)
+  named_variants_in v d = None
+
+  pub variants_in : Version → Data → Option Variants
+  variants_in v (json.array ds) = variants_of v ds
+  variants_in v d = None
+
+  pub variants_of : Version → Items → Option Variants
+  variants_of v no_items = Some []
+  variants_of v (item d ds) = option_and_then (λ f. option_map (λ variants. f ∷ variants) (variants_of v ds)) (variant_in v d)
+
+  -- a name and a payload, in an array of the two
+  pub variant_in : Version → Data → Option (List ℕ × PayloadShape)
+  variant_in v (json.array (item n (item d no_items))) = together (name_in n) (payload_in v d)
+  variant_in v d = None
+
+  pub payload_in : Version → Data → Option PayloadShape
+  payload_in v (json.string word) = word_payload word
+  payload_in v (json.object (member tag d no_members)) = tagged_payload v tag (shape_of v d) (row_in v d) (fields_in v d)
+  payload_in v d = None
+
 -- what stands under a tag
 abbrev pub under_in : Version → Data → Under
-under_in v d = record { inside = shape_of v d; row = row_in v d; both = shapes_in v d; named = named_shape_in v d; named_row = named_row_in v d; named_fields = named_fields_in v d }
+under_in v d = record { inside = shape_of v d; row = row_in v d; both = shapes_in v d; named = named_shape_in v d; named_row = named_row_in v d; named_fields = named_fields_in v d; named_variants = named_variants_in v d }
 
 -- the shape that is meant: in a document of the first version the surplus of tuples is passed over
 abbrev pub meant : Version → Shape → Shape

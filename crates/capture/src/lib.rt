@@ -10,6 +10,7 @@ mod key_tests;
 mod line;
 mod members;
 mod named;
+mod payload_parts;
 mod reader;
 mod scalar_words;
 mod shape_parts;
@@ -22,6 +23,7 @@ mod tests;
 mod tree_words;
 mod twos;
 mod values;
+mod variant_words;
 mod version;
 mod words;
 

@@ -1,11 +1,20 @@
 //! The shapes of the parts of values. A value that is of no such shape has parts of none.
-ghost use Rattle.std.specs.Prelude.{◌≡◌, map, option_map};
-ghost use Rattle.capture.specs.Line.{inside_of, element_of, key_of, value_of, field_of, name_at, shape_at};
+ghost use Rattle.std.specs.Prelude.{◌≡◌, Some, map, option_map, slice_get};
+ghost use Rattle.capture.specs.Line.{inside_of, elements_of, element_at, key_of, value_of, fields_of, shape_at};
 ghost use Rattle.shape.specs.Shape.{shapes_of};
 ghost use Rattle.shape.specs.View.{shape_view};
-ghost use Rattle.capture.specs.LentShape.{lent};
+ghost use Rattle.capture.specs.LentShape.{lent, elements_view, lent_fields};
 
-use shape::Shape;
+use shape::{Fields, Shape};
+
+/// The shapes of elements.
+#[derive(Clone, Copy)]
+pub enum Elements<'s> {
+    /// One of all.
+    Every(Option<&'s Shape>),
+    /// One for each place.
+    Row(&'s [Shape]),
+}
 
 /// What an option or a newtype holds.
 pub fn inside_shape(shape: Option<&Shape>) -> Option<&Shape>
@@ -17,18 +26,37 @@ pub fn inside_shape(shape: Option<&Shape>) -> Option<&Shape>
     }
 }
 
-/// The element at a place.
-#[tactic(auto, using(shape::proofs::Views::views_of_rows))]
-pub fn element_shape(shape: Option<&Shape>, place: usize) -> Option<&Shape>
-    ensures { lent result ≡ element_of (lent shape.entry) place }
+/// The elements of a sequence or a tuple.
+pub fn element_shapes(shape: Option<&Shape>) -> Elements<'_>
+    ensures { elements_view result ≡ elements_of (lent shape.entry) }
 {
-    match shape? {
-        Shape::Seq(element) => Some(element),
-        Shape::Tuple(row) => at(row, place),
-        Shape::TupleStruct(_name, row) => at(row, place),
-        Shape::Prefix(row) => at(row, place),
-        Shape::PrefixStruct(_name, row) => at(row, place),
-        _ => None,
+    match shape {
+        Some(shape) => shapes_within(shape),
+        None => Elements::Every(None),
+    }
+}
+
+#[tactic(auto, using(shape::proofs::Views::views_of_rows))]
+fn shapes_within(shape: &Shape) -> Elements<'_>
+    ensures { elements_view result ≡ elements_of (Some (shape_view shape.now)) }
+{
+    match shape {
+        Shape::Seq(element) => Elements::Every(Some(element)),
+        Shape::Tuple(row) => Elements::Row(row),
+        Shape::TupleStruct(_name, row) => Elements::Row(row),
+        Shape::Prefix(row) => Elements::Row(row),
+        Shape::PrefixStruct(_name, row) => Elements::Row(row),
+        _ => Elements::Every(None),
+    }
+}
+
+/// The element at a place.
+pub fn element_shape(elements: Elements<'_>, place: usize) -> Option<&Shape>
+    ensures { lent result ≡ element_at (elements_view elements.entry) place }
+{
+    match elements {
+        Elements::Every(element) => element,
+        Elements::Row(row) => at(row, place),
     }
 }
 
@@ -52,30 +80,31 @@ pub fn value_shape(shape: Option<&Shape>) -> Option<&Shape>
     }
 }
 
-/// The field at a place.
+/// The fields of a struct.
 #[tactic(auto, using(shape::proofs::Views::views_of_rows))]
-pub fn field_shape(shape: Option<&Shape>, place: usize) -> Option<&Shape>
-    ensures { lent result ≡ field_of (lent shape.entry) place }
+pub fn field_shapes(shape: Option<&Shape>) -> Option<&Fields>
+    ensures { lent_fields result ≡ fields_of (lent shape.entry) }
 {
     match shape? {
-        Shape::Struct(_name, fields) => at(fields.shapes(), place),
-        Shape::Strict(_name, fields) => at(fields.shapes(), place),
-        Shape::Loose(_name, fields) => at(fields.shapes(), place),
+        Shape::Struct(_name, fields) => Some(fields),
+        Shape::Strict(_name, fields) => Some(fields),
+        Shape::Loose(_name, fields) => Some(fields),
         _ => None,
     }
 }
 
-/// The name of the field at a place.
-#[tactic(auto, using(shape::proofs::Views::views_of_rows))]
-pub fn field_name(shape: Option<&Shape>, place: usize) -> Option<&str>
-    ensures { option_map (λ n. n.now) result ≡ name_at (lent shape.entry) place }
+/// The field at a place.
+pub fn field_shape(fields: Option<&Fields>, place: usize) -> Option<&Shape>
+    ensures { lent result ≡ shape_at (lent_fields fields.entry).shapes place }
 {
-    match shape? {
-        Shape::Struct(_, fields) | Shape::Strict(_, fields) | Shape::Loose(_, fields) => {
-            fields.names().get(place)
-        }
-        _ => None,
-    }
+    at(fields?.shapes(), place)
+}
+
+/// The name of the field at a place.
+pub fn field_name(fields: Option<&Fields>, place: usize) -> Option<&str>
+    ensures { option_map (λ n. n.now) result ≡ slice_get (lent_fields fields.entry).names place }
+{
+    fields?.names().get(place)
 }
 
 // The shape at a place of a row.

@@ -4,14 +4,18 @@ ghost use Rattle.serde_json.specs.Data.{array, string, item, no_items};
 ghost use Rattle.serde_json.specs.View.{view};
 ghost use Rattle.shape.specs.Shape.{parts_of, pairs_of};
 ghost use Rattle.shape.specs.View.{data_view, pair_view, payload_view};
-ghost use Rattle.capture.specs.Line.{whole, each, element_of, field_of, name_at, with_name as named_by, printed, printed_parts, printed_fields, printed_pairs, printed_payload, key_of, value_of};
-ghost use Rattle.capture.specs.LentShape.{lent};
+ghost use Rattle.capture.specs.Line.{whole, each, with_name as named_by, variant_name as variant_named, name_or_number, payload_of, printed, printed_parts, printed_fields, printed_pairs, printed_payload, key_of, value_of};
+ghost use Rattle.capture.specs.LentShape.{lent, elements_view, lent_fields};
 
+use crate::payload_parts::{
+    elements_of_variant, fields_of_variant, inside_of_variant, payload_shape, variant_name,
+};
 use crate::shape_parts::{
-    element_shape, field_name, field_shape, inside_shape, key_shape, value_shape,
+    Elements, element_shape, element_shapes, field_name, field_shape, field_shapes, inside_shape,
+    key_shape, value_shape,
 };
 use serde_json::{Value as Json, json};
-use shape::{Data, Payload, Shape};
+use shape::{Data, Fields, Payload, Shape};
 use std::alloc::{AllocError, Global};
 
 /// How a value of a shape is printed. What is of no such shape is printed without the names of fields.
@@ -33,22 +37,22 @@ pub fn print(alloc: Global, shape: Option<&Shape>, value: Data) -> Result<Json, 
             json!(in alloc; [inside])
         }
         Data::Newtype(inside) => print(alloc, inside_shape(shape), inside.into_inner()),
-        Data::Seq(items) => print_items(alloc, shape, items.into_vec()),
+        Data::Seq(items) => print_items(alloc, element_shapes(shape), items.into_vec()),
         Data::Map(pairs) => print_pairs(alloc, shape, pairs.into_vec()),
-        Data::Struct(items) => print_fields(alloc, shape, items.into_vec()),
-        Data::Enum(number, payload) => print_variant(alloc, number, payload),
+        Data::Struct(items) => print_fields(alloc, field_shapes(shape), items.into_vec()),
+        Data::Enum(number, payload) => print_variant(alloc, shape, number, payload),
     }
 }
 
 // Elements, each by the shape of its place.
 #[cycle(print)]
 #[tactic(auto, using(crate::proofs::Printing::printing))]
-fn print_items(alloc: Global, shape: Option<&Shape>, items: Vec<Data>) -> Result<Json, AllocError>
-    ensures { IfOk result (λ json. view json ≡ array (printed_parts (lent shape.entry) 0 (parts_of (map data_view items.items)))) }
+fn print_items(alloc: Global, elements: Elements<'_>, items: Vec<Data>) -> Result<Json, AllocError>
+    ensures { IfOk result (λ json. view json ≡ array (printed_parts (elements_view elements.entry) 0 (parts_of (map data_view items.items)))) }
 {
     let mut printed = Vec::with_capacity(alloc, items.len())?;
     for item in items {
-        let element = element_shape(shape, printed.len());
+        let element = element_shape(elements, printed.len());
         printed.push(print(alloc, element, item)?)?;
     }
     Ok(Json::Array(printed))
@@ -57,14 +61,18 @@ fn print_items(alloc: Global, shape: Option<&Shape>, items: Vec<Data>) -> Result
 // Fields, each by its name and the shape of its place.
 #[cycle(print)]
 #[tactic(auto, using(crate::proofs::Printing::printing))]
-fn print_fields(alloc: Global, shape: Option<&Shape>, items: Vec<Data>) -> Result<Json, AllocError>
-    ensures { IfOk result (λ json. view json ≡ array (printed_fields (lent shape.entry) 0 (parts_of (map data_view items.items)))) }
+fn print_fields(
+    alloc: Global,
+    fields: Option<&Fields>,
+    items: Vec<Data>,
+) -> Result<Json, AllocError>
+    ensures { IfOk result (λ json. view json ≡ array (printed_fields (lent_fields fields.entry) 0 (parts_of (map data_view items.items)))) }
 {
     let mut printed = Vec::with_capacity(alloc, items.len())?;
     for item in items {
         let place = printed.len();
-        let field = print(alloc, field_shape(shape, place), item)?;
-        printed.push(with_name(alloc, field_name(shape, place), field)?)?;
+        let field = print(alloc, field_shape(fields, place), item)?;
+        printed.push(with_name(alloc, field_name(fields, place), field)?)?;
     }
     Ok(Json::Array(printed))
 }
@@ -111,18 +119,38 @@ fn print_pair(
     json!(in alloc; [key, value])
 }
 
-// A variant by its number, and what it holds, if anything.
+// A variant by its name, and what it holds, if anything.
 #[cycle(print)]
-fn print_variant(alloc: Global, number: usize, payload: Payload) -> Result<Json, AllocError>
-    ensures { IfOk result (λ json. view json ≡ array (item (whole number) (printed_payload (payload_view payload)))) }
+fn print_variant(
+    alloc: Global,
+    shape: Option<&Shape>,
+    number: usize,
+    payload: Payload,
+) -> Result<Json, AllocError>
+    ensures { IfOk result (λ json. view json ≡ array (item (name_or_number (variant_named (lent shape.entry) number) number)
+        (printed_payload (payload_of (lent shape.entry) number) (payload_view payload)))) }
 {
+    let name = print_name(alloc, variant_name(shape, number), number)?;
+    let held = payload_shape(shape, number);
     let inside = match payload {
-        Payload::Unit => return json!(in alloc; [number]),
-        Payload::Newtype(inside) => print(alloc, None, inside.into_inner())?,
-        Payload::Tuple(items) => print_items(alloc, None, items.into_vec())?,
-        Payload::Struct(items) => print_fields(alloc, None, items.into_vec())?,
+        Payload::Unit => return json!(in alloc; [name]),
+        Payload::Newtype(inside) => print(alloc, inside_of_variant(held), inside.into_inner())?,
+        Payload::Tuple(items) => {
+            print_items(alloc, elements_of_variant(held), items.into_vec())?
+        }
+        Payload::Struct(items) => print_fields(alloc, fields_of_variant(held), items.into_vec())?,
     };
-    json!(in alloc; [number, inside])
+    json!(in alloc; [name, inside])
+}
+
+// A variant's name, or its number where it has none.
+fn print_name(alloc: Global, name: Option<&str>, number: usize) -> Result<Json, AllocError>
+    ensures { IfOk result (λ json. view json ≡ name_or_number (option_map (λ n. n.now) name.entry) number) }
+{
+    match name {
+        Some(name) => Ok(Json::String(String::from_str(alloc, name)?)),
+        None => Ok(Json::from(number as u64)),
+    }
 }
 
 fn print_char(alloc: Global, c: char) -> Result<Json, AllocError>

@@ -8,6 +8,7 @@ ghost use Rattle.capture.specs.FieldsView.{fields_view};
 use crate::members::sole_member;
 use crate::named::{name, named};
 use crate::twos::two;
+use crate::variant_words::named_variants;
 use crate::version::Version;
 use data_core::Text;
 use serde_json::Value as Json;
@@ -101,6 +102,10 @@ fn tagged_shape(
             Some((name, fields)) => Ok(Some(Shape::Loose(name, fields))),
             None => Ok(None),
         },
+        "enum" => match named_variants(alloc, version, inside)? {
+            Some((name, variants)) => Ok(Some(Shape::Enum(name, variants))),
+            None => Ok(None),
+        },
         "prefix" if second => match row(alloc, version, inside)? {
             Some(row) => Ok(Some(Shape::Prefix(row))),
             None => Ok(None),
@@ -113,8 +118,9 @@ fn tagged_shape(
     }
 }
 
+/// The same, in a box.
 #[cycle(shape)]
-fn boxed_shape(
+pub fn boxed_shape(
     alloc: Global,
     version: Version,
     json: &Json,
@@ -150,9 +156,9 @@ fn map_shape(
     Ok(Some(Box::new(alloc, MapShape { key, value })?))
 }
 
-// Shapes in an array.
+/// Shapes in an array.
 #[cycle(shape)]
-fn row(alloc: Global, version: Version, json: &Json) -> Result<Option<Vec<Shape>>, AllocError>
+pub fn row(alloc: Global, version: Version, json: &Json) -> Result<Option<Vec<Shape>>, AllocError>
     ensures { IfOk result (λ found. option_map (λ v. map shape_view v.items) found ≡ row_in version (view json.now)) }
 {
     match json {
@@ -237,8 +243,9 @@ fn named_fields(
     }
 }
 
+/// Fields in an array, each in an array of its name and its shape.
 #[cycle(shape)]
-fn fields(alloc: Global, version: Version, json: &Json) -> Result<Option<Fields>, AllocError>
+pub fn fields(alloc: Global, version: Version, json: &Json) -> Result<Option<Fields>, AllocError>
     ensures fields { IfOk result (λ found. option_map fields_view found ≡ fields_in version (view json.now)) }
     ensures even { IfOk result (λ found. IfSome found (λ f. length f.names ≡ length f.shapes.items)) }
 {

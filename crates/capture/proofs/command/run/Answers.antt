@@ -2,7 +2,7 @@ use Rattle.std.proofs.Common.{ℕ, List, ◌≢◌, ◌≤◌, length}
 use Rattle.std.specs.Option.{IfSome, IsSomeAnd}
 use Rattle.data_core.specs.Outside.{HasFailed}
 use Rattle.capture.specs.Document.{document}
-use Rattle.capture.specs.Run.{most_bytes, outcome_of, IsAnswer, Concludes}
+use Rattle.capture.specs.Run.{most_bytes, IsAnswer, Concludes}
 use Rattle.capture.specs.declared.status.Status.TheVariants.{Memory}
 use Rattle.capture.proofs.Replies.{answers_more, whole_stream}
 use Rattle.capture.proofs.command.run.Goals as goal

@@ -4,7 +4,7 @@ use Rattle.shape.specs.Shape.{parts_of, pairs_of}
 use Rattle.shape.specs.Depth.{depth, depth_of_parts, depth_of_pairs, depth_of_payload}
 use Rattle.shape.specs.View.{data_view, pair_view, payload_view}
 use Rattle.capture.specs.Line.{printed_parts, printed_fields, printed_pairs}
-use Rattle.capture.specs.LentShape.{lent}
+use Rattle.capture.specs.LentShape.{lent, elements_view, lent_fields}
 use Rattle.capture.proofs.Printing.{before}
 use Rattle.capture.proofs.values.+print.Given as goal
 
@@ -12,7 +12,7 @@ abbrev pub invariant-print_items-loop-item : goal.invariant-print_items-loop-ite
 invariant-print_items-loop-item l =
     let all = parts_of (map data_view l.fn.items.items) in
     let left = parts_of (map data_view (into_iter_items l.item-iterator)) in
-    record { nests : depth_of_parts left ≤ depth_of_parts all; printed : printed_parts (lent l.shape) 0 all ≡ before l.printed.items (printed_parts (lent l.shape) (length l.printed.items) left) }
+    record { nests : depth_of_parts left ≤ depth_of_parts all; printed : printed_parts (elements_view l.elements) 0 all ≡ before l.printed.items (printed_parts (elements_view l.elements) (length l.printed.items) left) }
 
 abbrev pub decreases-print : goal.decreases-print
 decreases-print l = 3 * depth (data_view l.value) + 2
@@ -42,4 +42,4 @@ abbrev pub invariant-print_fields-loop-item : goal.invariant-print_fields-loop-i
 invariant-print_fields-loop-item l =
     let all = parts_of (map data_view l.fn.items.items) in
     let left = parts_of (map data_view (into_iter_items l.item-iterator)) in
-    record { nests : depth_of_parts left ≤ depth_of_parts all; printed : printed_fields (lent l.shape) 0 all ≡ before l.printed.items (printed_fields (lent l.shape) (length l.printed.items) left) }
+    record { nests : depth_of_parts left ≤ depth_of_parts all; printed : printed_fields (lent_fields l.fields) 0 all ≡ before l.printed.items (printed_fields (lent_fields l.fields) (length l.printed.items) left) }
