@@ -2,6 +2,8 @@
 #![tactic(auto)]
 
 #[cfg(test)]
+mod enum_keys;
+#[cfg(test)]
 mod events;
 #[cfg(test)]
 mod lenient;
@@ -19,3 +21,9 @@ mod refusals;
 mod sequences;
 #[cfg(test)]
 mod skipping;
+#[cfg(test)]
+mod tables;
+#[cfg(test)]
+mod variant_shapes;
+#[cfg(test)]
+mod variants;
