@@ -1,5 +1,4 @@
 //! Readers of boxes.
-ghost use Rattle.std.specs.Prelude.{refl};
 ghost use Rattle.data_std.specs.Compound.{BoxReads};
 
 use crate::types::Deserialize;

@@ -150,9 +150,10 @@ fn visit_key<D: Deserializer>(
     ignore_shown(alloc, shown, track)
 }
 
-// Reads the value that waits, and drops it.
+/// Reads the value that waits, and drops it. `track` then holds the path of a refusal, if `D` tracks
+/// and no path was held before.
 #[cycle(ignore)]
-fn ignore_value<D: Deserializer>(
+pub fn ignore_value<D: Deserializer>(
     alloc: Global,
     map: &mut D::Map,
     track: &mut Track,

@@ -2,6 +2,7 @@
 #![tactic(auto)]
 
 mod boxes;
+mod empty;
 mod ends;
 mod error;
 mod ignored;
@@ -25,8 +26,9 @@ mod waiting;
 mod wide_integers;
 
 pub use boxes::BoxSeed;
+pub use empty::{NoElements, NoEntries, UnitOnly};
 pub use error::Error;
-pub use ignored::{IgnoredAny, ignore_entries, ignore_rest};
+pub use ignored::{IgnoredAny, ignore_entries, ignore_rest, ignore_value};
 pub use integers::{Integer, IntegerSeed};
 pub use into::IntoDeserializer;
 pub use lists::VecSeed;
@@ -37,7 +39,7 @@ pub use part_variant::PartVariant;
 pub use reading::{deserialize, next_element, next_entry, next_key, next_value};
 pub use scalars::{BoolSeed, CharSeed, StringSeed, UnitSeed};
 pub use sequences::{SeqDeserializer, SeqElements, SeqEntries};
-pub use strings::{NoElements, NoEntries, StringDeserializer, UnitOnly};
+pub use strings::StringDeserializer;
 pub use tuples::{Tuple1Seed, Tuple2Seed, Tuple3Seed, Tuple4Seed};
 pub use types::Deserialize;
 pub use variants::{newtype_variant, variant};

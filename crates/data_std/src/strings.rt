@@ -4,6 +4,7 @@ ghost use Rattle.data_core.specs.Node.{no_payload};
 ghost use Rattle.data_core.specs.Source.{end, no_entries};
 ghost use Rattle.data_std.specs.Texts.{text_source};
 
+use crate::empty::{NoElements, NoEntries, UnitOnly};
 use crate::into::IntoDeserializer;
 use data_core::{DeError, Deserializer, Hint, Names, Scalar, Shown, Track, Unexpected};
 use std::alloc::Global;
@@ -16,20 +17,6 @@ pub struct StringDeserializer<E: DeError> {
     alloc: Global,
     value: String,
     error: PhantomData<E>,
-}
-
-/// A variant without a payload.
-#[derive(Drop)]
-pub struct UnitOnly;
-
-/// A sequence without elements. None is shown.
-#[derive(Drop)]
-pub struct NoElements;
-
-/// A map without entries. None is shown.
-#[derive(Drop)]
-pub struct NoEntries<E: DeError> {
-    waiting: Option<StringDeserializer<E>>,
 }
 
 impl<E: DeError> StringDeserializer<E> {
@@ -56,7 +43,7 @@ impl<E: DeError> Deserializer for StringDeserializer<E> {
 
     type Seq = NoElements;
 
-    type Map = NoEntries<E>;
+    type Map = NoEntries<StringDeserializer<E>>;
 
     type Variant = UnitOnly;
 
@@ -108,13 +95,15 @@ impl<E: DeError> Deserializer for StringDeserializer<E> {
         Ok(())
     }
 
-    fn next_key(map: &mut NoEntries<E>) -> Result<Option<StringDeserializer<E>>, E> {
+    fn next_key(
+        map: &mut NoEntries<StringDeserializer<E>>,
+    ) -> Result<Option<StringDeserializer<E>>, E> {
         map.waiting = None;
         Ok(None)
     }
 
     fn show_key(
-        _map: &mut NoEntries<E>,
+        _map: &mut NoEntries<StringDeserializer<E>>,
         key: StringDeserializer<E>,
         hint: Hint<'_>,
     ) -> Result<Shown<StringDeserializer<E>>, E> {
@@ -122,7 +111,7 @@ impl<E: DeError> Deserializer for StringDeserializer<E> {
     }
 
     fn leave_key(
-        _map: &mut NoEntries<E>,
+        _map: &mut NoEntries<StringDeserializer<E>>,
         _held: bool,
         _failed: bool,
         _track: &mut Track,
@@ -130,12 +119,12 @@ impl<E: DeError> Deserializer for StringDeserializer<E> {
         Ok(())
     }
 
-    fn next_value(map: &mut NoEntries<E>) -> Result<StringDeserializer<E>, E> {
+    fn next_value(map: &mut NoEntries<StringDeserializer<E>>) -> Result<StringDeserializer<E>, E> {
         Ok(map.waiting.take().unwrap())
     }
 
     fn leave_value(
-        _map: &mut NoEntries<E>,
+        _map: &mut NoEntries<StringDeserializer<E>>,
         _held: bool,
         _failed: bool,
         _track: &mut Track,
@@ -143,11 +132,11 @@ impl<E: DeError> Deserializer for StringDeserializer<E> {
         Ok(())
     }
 
-    fn entries_left(_map: &NoEntries<E>) -> Option<usize> {
+    fn entries_left(_map: &NoEntries<StringDeserializer<E>>) -> Option<usize> {
         Some(0)
     }
 
-    fn end_map(_alloc: Global, _map: NoEntries<E>) -> Result<(), E> {
+    fn end_map(_alloc: Global, _map: NoEntries<StringDeserializer<E>>) -> Result<(), E> {
         Ok(())
     }
 
@@ -184,7 +173,7 @@ impl<E: DeError> Deserializer for StringDeserializer<E> {
         alloc: Global,
         _variant: &mut UnitOnly,
         _fields: &Names,
-    ) -> Result<NoEntries<E>, E> {
+    ) -> Result<NoEntries<StringDeserializer<E>>, E> {
         Err(E::invalid_type(alloc, Unexpected::UnitVariant, "struct variant"))
     }
 

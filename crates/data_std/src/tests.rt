@@ -6,8 +6,9 @@ ghost use Rattle.data_core.specs.Node.{no_payload};
 ghost use Rattle.data_core.specs.Show.{scalar_view};
 
 use crate::{
-    Deserialize, Error, IgnoredAny, MapDeserializer, MapEntries, SeqDeserializer, SeqElements,
-    UnitOnly, deserialize, ignore_entries, ignore_rest, next_element, next_entry,
+    Deserialize, Error, IgnoredAny, MapDeserializer, MapEntries, NoElements, NoEntries,
+    SeqDeserializer, SeqElements, UnitOnly, deserialize, ignore_entries, ignore_rest, ignore_value,
+    next_element, next_entry, next_key,
 };
 use data_core::{DeError, Deserializer, Hint, Names, Scalar, Shown, Track, Unexpected};
 use std::alloc::{AllocError, Global};
@@ -25,15 +26,6 @@ enum Item {
     Variant(Scalar<String, Vec<u8>>),
 }
 
-#[derive(Drop)]
-struct NoElements;
-
-// No entries, and perhaps a value that waits.
-#[derive(Drop)]
-struct NoEntries {
-    waiting: Option<Item>,
-}
-
 impl Deserializer for Item {
     type Error = Error;
 
@@ -43,7 +35,7 @@ impl Deserializer for Item {
 
     type Seq = NoElements;
 
-    type Map = NoEntries;
+    type Map = NoEntries<Item>;
 
     type Variant = UnitOnly;
 
@@ -111,17 +103,21 @@ impl Deserializer for Item {
         Ok(())
     }
 
-    fn next_key(map: &mut NoEntries) -> Result<Option<Item>, Error> {
+    fn next_key(map: &mut NoEntries<Item>) -> Result<Option<Item>, Error> {
         map.waiting = None;
         Ok(None)
     }
 
-    fn show_key(_map: &mut NoEntries, key: Item, hint: Hint<'_>) -> Result<Shown<Item>, Error> {
+    fn show_key(
+        _map: &mut NoEntries<Item>,
+        key: Item,
+        hint: Hint<'_>,
+    ) -> Result<Shown<Item>, Error> {
         key.show(hint)
     }
 
     fn leave_key(
-        _map: &mut NoEntries,
+        _map: &mut NoEntries<Item>,
         _held: bool,
         _failed: bool,
         _track: &mut Track,
@@ -129,12 +125,12 @@ impl Deserializer for Item {
         Ok(())
     }
 
-    fn next_value(map: &mut NoEntries) -> Result<Item, Error> {
-        map.waiting.take().ok_or(Error::memory())
+    fn next_value(map: &mut NoEntries<Item>) -> Result<Item, Error> {
+        Ok(map.waiting.take().unwrap())
     }
 
     fn leave_value(
-        _map: &mut NoEntries,
+        _map: &mut NoEntries<Item>,
         _held: bool,
         _failed: bool,
         _track: &mut Track,
@@ -142,11 +138,11 @@ impl Deserializer for Item {
         Ok(())
     }
 
-    fn entries_left(_map: &NoEntries) -> Option<usize> {
+    fn entries_left(_map: &NoEntries<Item>) -> Option<usize> {
         Some(0)
     }
 
-    fn end_map(_alloc: Global, _map: NoEntries) -> Result<(), Error> {
+    fn end_map(_alloc: Global, _map: NoEntries<Item>) -> Result<(), Error> {
         Ok(())
     }
 
@@ -187,7 +183,7 @@ impl Deserializer for Item {
         alloc: Global,
         _variant: &mut UnitOnly,
         _fields: &Names,
-    ) -> Result<NoEntries, Error> {
+    ) -> Result<NoEntries<Item>, Error> {
         Err(Error::invalid_type(alloc, Unexpected::UnitVariant, "struct variant"))
     }
 
@@ -610,6 +606,13 @@ fn what_is_ignored(rt: HostRuntime) -> Result<(), Fail> {
     let first = next_entry::<MapDeserializer<Item>, u8, u8>(alloc, &mut entries, &mut track);
     assert!(rt; matches!(first, Ok(Some((1, 2)))));
     assert!(rt; ignore_entries::<MapDeserializer<Item>>(alloc, &mut entries, &mut track).is_ok());
+    assert!(rt; entries.end(alloc).is_ok());
+    let mut entries = MapEntries::new(alloc, pairs_of(alloc, &[(1, 2)])?);
+    let Ok(Some(_key)) = next_key::<MapDeserializer<Item>, u8>(alloc, &mut entries, &mut track)
+    else {
+        return Err("no key".into());
+    };
+    assert!(rt; ignore_value::<MapDeserializer<Item>>(alloc, &mut entries, &mut track).is_ok());
     assert!(rt; entries.end(alloc).is_ok());
     Ok(())
 }

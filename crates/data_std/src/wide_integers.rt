@@ -1,5 +1,5 @@
 //! Readers of the integers of 128 bits.
-ghost use Rattle.std.specs.Prelude.{◌≡◌, ◌-◌, ◌^◌, pos, negsuc, refl};
+ghost use Rattle.std.specs.Prelude.{◌-◌, ◌^◌, pos, negsuc, refl};
 ghost use Rattle.data_core.specs.Ask as asks;
 ghost use Rattle.data_core.specs.Source.{scalar};
 ghost use Rattle.data_core.specs.Source as offer;

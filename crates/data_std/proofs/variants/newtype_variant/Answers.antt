@@ -1,4 +1,3 @@
-use Rattle.std.proofs.Common.{◌≡◌}
 use Rattle.data_core.specs.Source.{Source, offer_of}
 use Rattle.data_core.specs.Wanted.{newtype}
 use Rattle.data_core.specs.Choice.{IsInside}
