@@ -1,8 +1,8 @@
 pub mod Chosen
 pub mod Depths
 pub mod Edits
-pub mod Ignores
 pub mod InMemory
+pub mod OfShape
 pub mod Places
 pub mod Seeds
 pub mod Steps

@@ -4,6 +4,7 @@ pub mod Depth
 pub mod Fields
 pub mod Variants
 pub mod First
+pub mod OfShape
 pub mod View
 pub mod Steps
 pub mod Sizes

@@ -1,8 +1,9 @@
 //! The fields of a struct.
-ghost use Rattle.std.specs.Prelude.{◌≡◌, ◌++◌, ◌∷◌, ◌==◌, [], length, take, OnOk, IfErr};
-ghost use Rattle.shape.specs.Fields.{place_in, place_of};
+ghost use Rattle.std.specs.Prelude.{◌≡◌, ◌++◌, ◌∷◌, ◌==◌, [], length, OnOk, IfErr};
+ghost use Rattle.shape.specs.Fields.{place_of};
 ghost use Rattle.shape.specs.View.{fields_in};
 
+use crate::names::{place_among, push_both};
 use crate::shapes::{Fields, Shape};
 use data_core::{Names, Text};
 use std::alloc::Global;
@@ -27,14 +28,7 @@ impl Fields {
         ensures back { IfErr result (λ back. (back.0 ≡ name) × (back.1 ≡ shape)) }
         ensures unchanged { IfErr result (λ back. (self.new.names ≡ self.old.names) × (self.new.shapes.items ≡ self.old.shapes.items)) }
     {
-        let last = self.shapes.len();
-        if let Err(failed) = self.shapes.push(shape) {
-            return Err((name, failed.value));
-        }
-        match self.names.push(name) {
-            Ok(()) => Ok(()),
-            Err(name) => Err((name, self.shapes.remove(last))),
-        }
+        push_both(&mut self.names, &mut self.shapes, name, shape)
     }
 
     /// How many fields there are. Takes no memory.
@@ -71,15 +65,5 @@ impl Fields {
         ensures { result ≡ place_of name.now (fields_in self.now) }
     {
         place_among(&self.names, self.shapes.len(), name)
-    }
-}
-
-/// The first place of a name among the first `count` of them.
-pub fn place_among(names: &Names, count: usize, name: &str) -> Option<usize>
-    ensures { result ≡ place_in name.now (take count names.now) }
-{
-    match names.find(name) {
-        Some(place) if place < count => Some(place),
-        _ => None,
     }
 }

@@ -13,6 +13,7 @@ mod map;
 mod map_tests;
 #[cfg(test)]
 mod memory;
+mod names;
 mod order;
 mod parts;
 mod reader;

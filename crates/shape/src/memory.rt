@@ -8,7 +8,6 @@ ghost use Rattle.data_core.specs.Sequence.{Sequence};
 ghost use Rattle.data_core.specs.Show.{scalar_view};
 ghost use Rattle.data_core.specs.Wanted.{Wanted};
 ghost use Rattle.data_core.specs.Node.{no_payload};
-ghost use Rattle.data_core.specs.Choice.{Choice};
 ghost use Rattle.shape.specs.InMemory.{numbers, row, rows, pairs, table, chosen, number_payload, row_payload, table_payload, numbers_left, rows_left, pairs_left, key_view};
 ghost use Rattle.shape.specs.declared.memory.PlainError.TheVariants as error;
 

@@ -1,5 +1,5 @@
 //! Readers of structs.
-ghost use Rattle.std.specs.Prelude.{◌≡◌, ◌<◌, true, [], Some, None, OnOk, IfOk, IfSome, IsSome, length, replicate, slice_get};
+ghost use Rattle.std.specs.Prelude.{◌≡◌, ◌<◌, true, Some, None, OnOk, IfOk, IfSome, IsSome, length, replicate, slice_get};
 ghost use Rattle.data_core.specs.Ask.{identifier};
 ghost use Rattle.data_core.specs.Source.{Source, offer_of};
 ghost use Rattle.data_core.specs.Table.{Catches, text_of, with_caught, entry_segment, segment_of_key};
@@ -7,8 +7,8 @@ ghost use Rattle.data_core.specs.declared.path.Segment.{Segment};
 ghost use Rattle.data_core.specs.Fault.{IsCalled};
 ghost use Rattle.data_core.specs.declared.fault.Fault.TheVariants.{DuplicateField};
 ghost use Rattle.data_core.specs.Show.{shown_offer, Begins};
-ghost use Rattle.data_core.specs.Outcome.{under, Answers, Gives};
-ghost use Rattle.data_std.specs.Ignored.{ignored, at_key};
+ghost use Rattle.data_core.specs.Outcome.{Answers, Gives};
+ghost use Rattle.data_std.specs.Ignored.{at_key};
 ghost use Rattle.shape.specs.Fields.{is_option, place_of, known, place_of_key, put_field, field_step, each_field, filled, completed, named};
 ghost use Rattle.shape.specs.First.{rest_of_row, row_of, struct_of};
 ghost use Rattle.shape.specs.Steps.{all_viewed};
@@ -18,10 +18,8 @@ use crate::data::{Data, DataItems};
 use crate::entries::read_value;
 use crate::rows::{read_prefix, read_whole};
 use crate::shapes::{Fields, Shape};
-use data_core::{
-    DeError, Deserializer, Hint, Scalar, Shown, TextLike, Track, next_value_seed, refused,
-};
-use data_std::IgnoredAny;
+use data_core::{DeError, Deserializer, Hint, Scalar, Shown, TextLike, Track, refused};
+use data_std::ignore_value;
 use std::alloc::{AllocError, Global};
 
 /// Makes a struct of what is shown: of elements by position, or of entries by name. Where it is
@@ -271,22 +269,6 @@ fn duplicate<D: Deserializer>(alloc: Global, fields: &Fields, place: usize) -> D
         Some(name) => D::Error::duplicate_field(alloc, name),
         None => D::Error::memory(),
     }
-}
-
-// The value that waits, read as what is ignored.
-fn ignore_value<D: Deserializer>(
-    alloc: Global,
-    map: &mut D::Map,
-    track: &mut Track,
-) -> Result<(), D::Error>
-    requires { IsSome (D.table map.old).waiting }
-    ensures value { (segment : Segment) → (D.tracks ≡ true → segment ≡ entry_segment (D.table map.old).caught)
-        → (v : Source) → (D.table map.old).waiting ≡ Some v → Gives D.Error.fault D.tracks (λ u. u) result
-        (under segment (ignored v)) track.old track.new }
-    ensures left { OnOk result ((D.table map.new).left ≡ (D.table map.old).left) }
-{
-    next_value_seed::<D, IgnoredAny>(alloc, map, IgnoredAny, track)?;
-    Ok(())
 }
 
 // The value of each field, once every entry was read.

@@ -3,7 +3,7 @@ ghost use Rattle.std.specs.Prelude.{◌≡◌, ◌++◌, ◌∷◌, ◌==◌, []
 ghost use Rattle.shape.specs.Variants.{place_of_variant};
 ghost use Rattle.shape.specs.View.{variants_in};
 
-use crate::fields::place_among;
+use crate::names::{place_among, push_both};
 use crate::shapes::{VariantShape, Variants};
 use data_core::{Names, Text};
 use std::alloc::Global;
@@ -28,14 +28,7 @@ impl Variants {
         ensures back { IfErr result (λ back. (back.0 ≡ name) × (back.1 ≡ shape)) }
         ensures unchanged { IfErr result (λ back. (self.new.names ≡ self.old.names) × (self.new.shapes.items ≡ self.old.shapes.items)) }
     {
-        let last = self.shapes.len();
-        if let Err(failed) = self.shapes.push(shape) {
-            return Err((name, failed.value));
-        }
-        match self.names.push(name) {
-            Ok(()) => Ok(()),
-            Err(name) => Err((name, self.shapes.remove(last))),
-        }
+        push_both(&mut self.names, &mut self.shapes, name, shape)
     }
 
     /// How many variants there are. Takes no memory.

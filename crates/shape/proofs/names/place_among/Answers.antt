@@ -1,6 +1,6 @@
 use Rattle.shape.proofs.Places.{place_found, place_beyond, place_missing}
 use Rattle.std.proofs.Common.{rules}
-use Rattle.shape.proofs.fields.place_among.Goals as goal
+use Rattle.shape.proofs.names.place_among.Goals as goal
 
 pub returns-in-Some : goal.returns-in-Some
 returns-in-Some c =
