@@ -1,15 +1,23 @@
 -- What is handed out, in its three ways of being said.
-use Rattle.std.proofs.Common.{◌≡◌, List, Option, Result, Ok, Err}
+use Rattle.std.proofs.Common.{◌≡◌, ◌∙◌, List, Option, Result, Ok, Err}
 use Rattle.std.specs.Result.{IfOk, IfErr}
 use Rattle.data_core.specs.declared.fault.Fault.{Fault}
 use Rattle.data_core.specs.declared.path.Segment.{Segment}
 use Rattle.data_core.specs.Outcome.{Outcome, given, refused}
+use Rattle.path_core.specs.declared.error.Error.{Error}
+use Rattle.data_core.specs.Node.{Node, of_node}
+use Rattle.data_core.specs.Source.{Source}
 use Rattle.shape.specs.Shape as spec
+use Rattle.shape.specs.First.{first}
+use Rattle.shape.specs.OfShape.{IsOf}
 use Rattle.shape.specs.View.{data_view}
+use Rattle.shape.proofs.OfShape.{first_is}
 use Rattle.shape.specs.declared.data.Data.{Data}
 use Rattle.capture.specs.declared.reader.ReadError.{ReadError}
 use Rattle.capture.specs.declared.reader.ReadError.TheVariants.{Memory, Refused}
-use Rattle.capture.specs.Reads.{Hands, Answers, IsRefusal, IsRefusalOf, IsRefusalAny}
+use Rattle.capture.specs.FirstTree.{first_tree}
+use Rattle.capture.specs.Reads.{Hands, HandsAny, Answers, IsRefusal, IsRefusalOf, IsRefusalAny}
+use Rattle.capture.proofs.Agreement.{first_agrees}
 
 pub hands_value : (r : Result Data ReadError) (o : Outcome spec.Data) → Hands r o → IfOk r (λ d. o ≡ given (data_view d))
 hands_value (Ok d) o h = h
@@ -27,7 +35,15 @@ hands_answer (Ok value) (refused f p) h = cc
 hands_answer (Err (Refused path fault)) (given d) h = cc
 hands_answer (Err (Refused path fault)) (refused f p) h = (cc, cc)
 
-pub ruleset hands = (hands_value, hands_refusal, hands_answer)
+pub hands_of_shape : (r : Result Data ReadError) (a : spec.Shape) (t : Node) → Hands r (first_tree a t) → IfOk r (λ d. IsOf a (data_view d))
+hands_of_shape (Ok d) a t h = first_is a (of_node t) (data_view d) (first_agrees a t ∙ h)
+hands_of_shape (Err e) a t h = tt
+
+pub any_of_shape : {E : Type 0} (fault : E → Option Fault) (r : Result Data (Error E)) (a : spec.Shape) (s : Source) → HandsAny fault r (first a s) → IfOk r (λ d. IsOf a (data_view d))
+any_of_shape fault (Ok d) a s h = first_is a s (data_view d) h
+any_of_shape fault (Err e) a s h = tt
+
+pub ruleset hands = (hands_value, hands_refusal, hands_answer, hands_of_shape)
 
 -- an error of the outcome's fault at its path
 pub refusal_of : (e : ReadError) (fault : Option Fault) (path : List Segment) (o : Outcome spec.Data) → IsRefusalAny fault path o → IsRefusalOf e fault path → IsRefusal e o

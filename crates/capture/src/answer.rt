@@ -3,9 +3,6 @@ ghost use Rattle.std.specs.Prelude.{◌≡◌, ◌++◌, ◌∷◌, [], false, I
 ghost use Rattle.serde_json.specs.View.{view};
 ghost use Rattle.serde_json.specs.Written.{compact_text, has_float};
 ghost use Rattle.capture.specs.Document.{document_view, document};
-ghost use Rattle.capture.specs.Line.{answer as answer_to};
-ghost use Rattle.capture.specs.Run.{outcome_of};
-ghost use Rattle.capture.specs.Status.{status_of};
 ghost use Rattle.capture.specs.Answer.{answer_view, answer_of};
 
 use crate::document::{Document, parse};

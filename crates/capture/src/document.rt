@@ -1,6 +1,6 @@
 //! Documents.
-ghost use Rattle.std.specs.Prelude.{◌≡◌, IfOk, option_map, option_and_then, codes, string_bytes};
-ghost use Rattle.serde_json.specs.Find.{get, get_member};
+ghost use Rattle.std.specs.Prelude.{◌≡◌, IfOk, option_map, option_and_then, codes};
+ghost use Rattle.serde_json.specs.Find.{get};
 ghost use Rattle.serde_json.specs.View.{view, members_view};
 ghost use Rattle.shape.specs.View.{shape_view};
 ghost use Rattle.capture.specs.Input.{tree, input_view};

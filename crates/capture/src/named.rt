@@ -1,6 +1,6 @@
 //! A name and what it names.
-ghost use Rattle.std.specs.Prelude.{◌≡◌, ℕ, List, option_map};
-ghost use Rattle.serde_json.specs.Data.{Data, array};
+ghost use Rattle.std.specs.Prelude.{◌≡◌, option_map};
+ghost use Rattle.serde_json.specs.Data.{array};
 ghost use Rattle.serde_json.specs.View.{view, items_view};
 ghost use Rattle.capture.specs.Words.{name_in, named_in};
 

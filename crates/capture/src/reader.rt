@@ -3,6 +3,7 @@ ghost use Rattle.std.specs.Prelude.{◌≡◌, IfOk, IfErr};
 ghost use Rattle.data_core.specs.Outcome.{given};
 ghost use Rattle.path_core.specs.Error.{path_of, original_of};
 ghost use Rattle.shape.specs.First.{first as first_source};
+ghost use Rattle.shape.specs.OfShape.{IsOf};
 ghost use Rattle.shape.specs.View.{shape_view, data_view};
 ghost use Rattle.serde_value.specs.View.{node_view};
 ghost use Rattle.serde_value.specs.ErrorView.{fault_of};
@@ -28,13 +29,14 @@ pub enum ReadError {
     Refused { path: Path, fault: Fault },
 }
 
-/// Reads an input under a shape: its value, or the first fault in reading order with the path to
-/// the refused part.
+/// Reads an input under a shape: its value, which is data of that shape, or the first fault in
+/// reading order with the path to the refused part.
 #[tactic(auto, using(crate::proofs::Hands::hands))]
 pub fn read(alloc: Global, shape: &Shape, input: Input) -> Result<Data, ReadError>
     ensures value { IfOk result (λ d. first (shape_view shape.now) (input_view input) ≡ given (data_view d)) }
     ensures refusal { IfErr result (λ e. IsRefusal e (first (shape_view shape.now) (input_view input))) }
     ensures complete { Answers (first (shape_view shape.now) (input_view input)) result }
+    ensures of_shape { IfOk result (λ d. IsOf (shape_view shape.now) (data_view d)) }
 {
     match input {
         Input::Tree(value) => read_tree(alloc, shape, value),
@@ -58,7 +60,8 @@ pub fn read_any<D: Deserializer>(
     shape: &Shape,
     d: D,
 ) -> Result<Data, Error<D::Error>>
-    ensures { HandsAny D.Error.fault result (first_source (shape_view shape.now) (D.source d)) }
+    ensures answer { HandsAny D.Error.fault result (first_source (shape_view shape.now) (D.source d)) }
+    ensures of_shape { IfOk result (λ d. IsOf (shape_view shape.now) (data_view d)) }
 {
     deserialize_seed(alloc, d, ShapeSeed::new(shape))
 }

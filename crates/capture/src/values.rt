@@ -1,5 +1,5 @@
 //! How values are printed.
-ghost use Rattle.std.specs.Prelude.{◌≡◌, ℕ, List, Option, map, option_map, IfOk, encode_utf8};
+ghost use Rattle.std.specs.Prelude.{◌≡◌, Option, map, option_map, IfOk, encode_utf8};
 ghost use Rattle.serde_json.specs.Data.{array, string, item, no_items};
 ghost use Rattle.serde_json.specs.View.{view};
 ghost use Rattle.shape.specs.Shape.{parts_of, pairs_of};

@@ -15,10 +15,10 @@ use Rattle.capture.proofs.reader.read_tree.Goals as goal
 pub returns-in-Err : goal.returns-in-Err
 returns-in-Err c =
     let error = c.in-Err.error in
-    let h : IsRefusalAny (fault_of (original_of error)) (path_of error) (first (shape_view c.args.shape.now) (of_node (node_view (value_of c.new-d.result)))) = c.in-Err.ensures in
+    let h : IsRefusalAny (fault_of (original_of error)) (path_of error) (first (shape_view c.args.shape.now) (of_node (node_view (value_of c.new-d.result)))) = c.in-Err.ensures.answer in
     refusal_of c.refusal.result (fault_of (original_of error)) (path_of error) _ (rw (c.new-d.ensures, first_agrees) at h) c.refusal.ensures
 
 pub returns-in-Ok : goal.returns-in-Ok
 returns-in-Ok c =
-    let h : first (shape_view c.args.shape.now) (of_node (node_view (value_of c.new-d.result))) ≡ given (data_view c.in-Ok.data) = c.in-Ok.ensures in
+    let h : first (shape_view c.args.shape.now) (of_node (node_view (value_of c.new-d.result))) ≡ given (data_view c.in-Ok.data) = c.in-Ok.ensures.answer in
     rw (c.new-d.ensures, first_agrees) at h
