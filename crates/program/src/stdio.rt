@@ -1,6 +1,6 @@
 //! Standard input and output as a source and a sink: the trusted edge. What they give and take is
 //! told by no clause.
-ghost use Rattle.std.specs.Prelude.{◌≡◌, None};
+ghost use Rattle.std.specs.Prelude.{None};
 
 use data_core::{Failed, Out, Source};
 use std::io::{Read, Write};

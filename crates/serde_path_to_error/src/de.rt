@@ -1,8 +1,6 @@
 //! Entry points of reading.
-ghost use Rattle.std.specs.Prelude.{◌≡◌};
 ghost use Rattle.data_core.specs.Source.{offer_of};
-ghost use Rattle.data_core.specs.Tracking.{path_of as path_held};
-ghost use Rattle.path_core.specs.Error.{path_of, original_of};
+ghost use Rattle.path_core.specs.Error.{path_of};
 ghost use Rattle.serde_path_to_error.specs.Traced.{Traced};
 
 use data_core::{DeError, DeserializeSeed, Deserializer};

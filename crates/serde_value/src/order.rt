@@ -3,7 +3,7 @@ ghost use Rattle.std.specs.Prelude.{◌≡◌, map};
 ghost use Rattle.std.specs.Ordering.{nat_cmp};
 ghost use Rattle.data_core.specs.Node.{nodes_of, pairs_of};
 ghost use Rattle.data_core.specs.Order.{variant, node_order, nodes_order, pairs_order};
-ghost use Rattle.serde_value.specs.View.{node_view, pair_view};
+ghost use Rattle.serde_value.specs.View.{node_view};
 
 use crate::value::{Value, ValueMap};
 use std::cmp::Ordering;

@@ -1,7 +1,7 @@
 //! The reader of trees.
 ghost use Rattle.std.specs.Prelude.{◌≡◌, ◌++◌, ◌∷◌, [], true, IfOk, IsSome, OnOk};
 ghost use Rattle.data_core.specs.Ask.{any};
-ghost use Rattle.data_core.specs.Source.{Source, offer_of};
+ghost use Rattle.data_core.specs.Source.{offer_of};
 ghost use Rattle.data_core.specs.Sequence.{rest_of, place_after, IsNext};
 ghost use Rattle.data_core.specs.Table.{IsKey, IsValue, IsCaught, Catches, text_of, rest_of_entries, value_of, entry_segment, with_caught};
 ghost use Rattle.data_core.specs.Show.{shown_offer, scalar_view, Begins};
