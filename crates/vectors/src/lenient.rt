@@ -1,8 +1,5 @@
 //! A reader by hand that goes on after refusals.
-ghost use Rattle.std.specs.Prelude.{◌≡◌};
-ghost use Rattle.data_core.specs.Source.{Offer};
 ghost use Rattle.data_core.specs.Ask as asks;
-ghost use Rattle.data_core.specs.Outcome.{Outcome};
 
 use data_core::{DeError, DeserializeSeed, Deserializer, Fault, Hint, Shown, Track, refused};
 use data_std::{Deserialize, Error};

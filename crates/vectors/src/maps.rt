@@ -2,7 +2,7 @@
 
 use crate::refusals::told;
 use capture::read_any;
-use data_core::{Deserializer, Fault, Kind};
+use data_core::{Deserializer, Fault, Hint, Kind, Shown};
 use data_std::{Error, MapDeserializer, MapEntries};
 use serde_path_to_error::{deserialize, deserialize_seed};
 use serde_value::{Value, ValueDeserializer, ValueMap};
@@ -79,6 +79,23 @@ fn a_map_of_a_type(rt: HostRuntime) -> Result<(), Fail> {
             assert_eq!(rt; map.get(&2).copied(), Some(20));
         }
         Err(_) => panic!(rt; "refused"),
+    }
+    Ok(())
+}
+
+#[test]
+fn one_pair_as_a_sequence(rt: HostRuntime) -> Result<(), Fail> {
+    let alloc = rt.alloc();
+    let pair = (
+        Tree::new(alloc, Value::U8(1)),
+        Tree::new(alloc, Value::Unit),
+    );
+    let d = MapDeserializer::new(alloc, vec![in alloc; pair]?);
+    match d.show(Hint::Seq) {
+        Ok(Shown::Seq(elements)) => {
+            assert_eq!(rt; MapDeserializer::<Tree>::elements_left(&elements), Some(1));
+        }
+        _ => panic!(rt; "no sequence"),
     }
     Ok(())
 }

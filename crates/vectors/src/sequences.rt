@@ -119,6 +119,7 @@ fn the_end_after_one_of_two_elements(rt: HostRuntime) -> Result<(), Fail> {
     let mut elements = SeqElements::new(items);
     let first = SeqDeserializer::<Tree>::next_element(&mut elements);
     assert!(rt; matches!(first, Ok(Some(_))));
+    assert_eq!(rt; SeqDeserializer::<Tree>::elements_left(&elements), Some(1));
     match elements.end(alloc) {
         Err(Error::Fault { cause, text }) => {
             assert!(rt; matches!(cause, Fault::InvalidLength(2)));
