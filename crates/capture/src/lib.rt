@@ -5,8 +5,6 @@ mod answer;
 mod command;
 mod document;
 mod input;
-#[cfg(test)]
-mod key_tests;
 mod line;
 mod members;
 mod named;
@@ -16,10 +14,6 @@ mod scalar_words;
 mod shape_parts;
 mod status;
 mod stream;
-#[cfg(test)]
-mod struct_tests;
-#[cfg(test)]
-mod tests;
 mod tree_words;
 mod twos;
 mod values;

@@ -17,8 +17,6 @@ mod reading;
 mod scalars;
 mod sequences;
 mod strings;
-#[cfg(test)]
-mod tests;
 mod tuples;
 mod types;
 mod variants;

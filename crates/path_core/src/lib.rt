@@ -2,8 +2,6 @@
 #![tactic(auto)]
 
 mod error;
-#[cfg(test)]
-mod tests;
 
 pub use data_core::{Path, Segment, Segments, Track};
 pub use error::Error;

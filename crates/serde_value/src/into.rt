@@ -30,20 +30,3 @@ impl<E: DeError> IntoDeserializer<E> for ValueDeserializer<E> {
         self
     }
 }
-
-#[cfg(test)]
-mod tests {
-    use super::*;
-    use crate::error::DeserializerError;
-
-    // Twice: of a tree, and of the deserializer that it is made into.
-    fn made<D: IntoDeserializer<DeserializerError>>(alloc: Global, value: D) -> D::Deserializer {
-        value.into_deserializer(alloc)
-    }
-
-    #[test]
-    fn a_tree_comes_back_from_its_deserializer(rt: HostRuntime) {
-        let d = made(rt.alloc(), made(rt.alloc(), Value::U8(7)));
-        assert!(rt; matches!(d.into_value(), Value::U8(7)));
-    }
-}

@@ -13,8 +13,6 @@ mod map_iter;
 mod order;
 mod reading;
 mod show;
-#[cfg(test)]
-mod tests;
 mod traits;
 mod unexpected;
 mod value;

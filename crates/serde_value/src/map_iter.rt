@@ -75,27 +75,3 @@ impl ExactSizeIterator for ValueMapIter<'_> {
 }
 
 impl FusedIterator for ValueMapIter<'_> {}
-
-#[cfg(test)]
-mod tests {
-    use super::*;
-    use std::test::Fail;
-
-    #[test]
-    fn from_both_ends(rt: HostRuntime) -> Result<(), Fail> {
-        let mut map = ValueMap::new(rt.alloc());
-        for n in [7, 5, 6] {
-            map.insert(Value::U8(n), Value::U16(u16::from(n)))
-                .ok()
-                .ok_or("no memory")?;
-        }
-        let mut pairs = map.iter();
-        assert_eq!(rt; pairs.len(), 3);
-        assert_eq!(rt; pairs.size_hint(), (3, Some(3)));
-        assert!(rt; matches!(pairs.next(), Some((Value::U8(5), Value::U16(5)))));
-        assert!(rt; matches!(pairs.next_back(), Some((Value::U8(7), Value::U16(7)))));
-        assert!(rt; matches!(pairs.next(), Some((Value::U8(6), Value::U16(6)))));
-        assert!(rt; pairs.next_back().is_none());
-        Ok(())
-    }
-}

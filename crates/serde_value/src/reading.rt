@@ -23,25 +23,3 @@ impl Value {
         data_std::deserialize(alloc, d, &mut track)
     }
 }
-
-#[cfg(test)]
-mod tests {
-    use super::*;
-    use crate::Items;
-    use std::test::Fail;
-
-    #[test]
-    fn a_tree_is_read_as_a_type(rt: HostRuntime) -> Result<(), Fail> {
-        let alloc = rt.alloc();
-        let items = vec![in alloc; Value::U8(1), Value::Option(None), Value::U16(7)]?;
-        match Value::Seq(Items::from_vec(items)).deserialize_into::<Vec<Option<u64>>>(alloc) {
-            Ok(list) => assert!(rt; matches!(list.as_slice(), [Some(1), None, Some(7)])),
-            Err(error) => panic!(rt; "{error}"),
-        }
-        match Value::Bool(true).deserialize_into::<Option<u64>>(alloc) {
-            Ok(_) => panic!(rt; "a boolean is read as an integer"),
-            Err(error) => assert!(rt; matches!(error, DeserializerError::InvalidType(_, _))),
-        }
-        Ok(())
-    }
-}

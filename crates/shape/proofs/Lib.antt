@@ -1,7 +1,6 @@
 pub mod Chosen
 pub mod Depths
 pub mod Edits
-pub mod InMemory
 pub mod OfShape
 pub mod Places
 pub mod Seeds

@@ -13,5 +13,4 @@ pub mod DataOrderLaws
 pub mod Refusals
 pub mod ShapeSeed
 pub mod Upgraded
-pub mod InMemory
 pub mod Integer

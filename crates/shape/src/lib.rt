@@ -4,31 +4,19 @@
 mod data;
 mod entries;
 mod enums;
-#[cfg(test)]
-mod field_tests;
 mod fields;
 mod iter;
 mod map;
-#[cfg(test)]
-mod map_tests;
-#[cfg(test)]
-mod memory;
 mod names;
 mod order;
 mod parts;
 mod reader;
-#[cfg(test)]
-mod row_tests;
 mod rows;
 mod scalars;
 mod seed;
 mod shapes;
 mod structs;
-#[cfg(test)]
-mod tests;
 mod traits;
-#[cfg(test)]
-mod variant_tests;
 mod variants;
 mod version;
 

@@ -70,27 +70,3 @@ impl DataItems {
         self.items.is_empty()
     }
 }
-
-#[cfg(test)]
-mod tests {
-    use super::*;
-    use std::test::Fail;
-
-    #[test]
-    fn what_is_held_comes_back(rt: HostRuntime) -> Result<(), Fail> {
-        let held = DataHeld::from_box(Box::new(rt.alloc(), Data::Unsigned(7))?);
-        assert!(rt; matches!(held.get(), Data::Unsigned(7)));
-        let held = DataHeld::from_box(held.into_box());
-        assert!(rt; matches!(held.into_inner(), Data::Unsigned(7)));
-        Ok(())
-    }
-
-    #[test]
-    fn items_come_back(rt: HostRuntime) -> Result<(), Fail> {
-        let items = DataItems::from_vec(vec![in rt.alloc(); Data::Unit]?);
-        assert!(rt; items.len() == 1 && !items.is_empty());
-        assert!(rt; matches!(items.as_slice(), [Data::Unit]));
-        assert!(rt; matches!(items.into_vec().as_slice(), [Data::Unit]));
-        Ok(())
-    }
-}
