@@ -7,7 +7,7 @@ use Rattle.data_core.specs.Fault.{IsCalled}
 use Rattle.data_core.specs.Ask.{Ask}
 use Rattle.data_core.specs.Source.{Source, Sources, more, Entries, entry, Offer, scalar, unit, offer_of}
 use Rattle.data_core.specs.Sequence.{IsNext}
-use Rattle.data_core.specs.Table.{IsKey, CatchesUnless, entry_segment, segment_of_key, text_of}
+use Rattle.data_core.specs.Table.{IsKey, CatchesUnless, entry_segment, segment_of_key, key_text}
 use Rattle.data_core.specs.Choice.{IsNothing}
 use Rattle.data_core.specs.Show.{Refuses, Hands}
 use Rattle.data_core.specs.Tracking.{Refusal, clear, held, marked, HoldsPath, path_of, left, left_key}
@@ -23,7 +23,7 @@ RefusedAmong-next tracks before reads i s ss (Some f) old mid new w h e =
 
 -- a key's refusal, once its path is the entry's segment alone
 pub RefusedAmong-key : {A : Type 0} (tracks before : Bool) (asks : Ask) (reads : Source → Outcome A → Type 0) (caught : Option (List ℕ)) (k v : Source) (es : Entries) (fault : Option Fault) (old mid new : Refusal)
-    → (IsTrue before ↔ (old ≢ clear)) → (tracks ≡ true → CatchesUnless fault caught (text_of (offer_of k asks))) → RefusedAmong tracks fault (reads k) old mid
+    → (IsTrue before ↔ (old ≢ clear)) → (tracks ≡ true → CatchesUnless fault caught (key_text (offer_of k asks))) → RefusedAmong tracks fault (reads k) old mid
     → new ≡ left_key tracks (entry_segment caught) before true mid → RefusedAmong tracks fault (IsKey asks reads (entry k v es)) old new
 RefusedAmong-key tracks before asks reads caught k v es None old mid new w same h e = tt
 RefusedAmong-key tracks before asks reads caught k v es (Some f) old mid new w same h e =

@@ -7,7 +7,7 @@ use Rattle.data_core.specs.Outcome.{Outcome, given, refused}
 use Rattle.data_core.specs.Wanted.{Wanted}
 use Rattle.data_core.specs.Source.{Source, Offer, scalar, newtype_struct, offer_of}
 use Rattle.data_core.specs.Source as offer
-use Rattle.data_core.specs.Table.{text_of}
+use Rattle.data_core.specs.Table.{key_text}
 
 pub record Choice : Type 0 where
   -- a call for a payload says nothing of what is offered after it
@@ -26,7 +26,7 @@ variant_segment (Some t) = Enum t
 
 -- the segment of a payload whose variant's name is read by this ask
 abbrev pub segment_of_variant : Ask → Source → Segment
-segment_of_variant a name = variant_segment (text_of (offer_of name a))
+segment_of_variant a name = variant_segment (key_text (offer_of name a))
 
 -- the outcomes of a variant's name: its refusal is that of the enum itself
 abbrev pub IsName : {A : Type 0} → (Source → Outcome A → Type 0) → Source → Outcome A → Type 0

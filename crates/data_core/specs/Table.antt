@@ -50,9 +50,9 @@ text_of_scalar (wide z) = Some (signed_decimal z)
 text_of_scalar (text t) = Some t
 text_of_scalar s = None
 
-abbrev pub text_of : Offer → Option (List ℕ)
-text_of (scalar s) = text_of_scalar s
-text_of offer = None
+abbrev pub key_text : Offer → Option (List ℕ)
+key_text (scalar s) = text_of_scalar s
+key_text offer = None
 
 -- the segment of an entry whose key was caught as this text
 abbrev pub entry_segment : Option (List ℕ) → Segment
@@ -61,7 +61,7 @@ entry_segment (Some t) = Map t
 
 -- the segment of an entry whose key is read by this ask
 abbrev pub segment_of_key : Ask → Source → Segment
-segment_of_key a k = entry_segment (text_of (offer_of k a))
+segment_of_key a k = entry_segment (key_text (offer_of k a))
 
 -- what a reader that stops is refused for: entries that are left where the end is checked
 abbrev pub surplus_entries : Bool → ℕ → Entries → Option Fault
@@ -100,7 +100,7 @@ IsKey asks reads (entry k v es) (refused f path) =
 -- the text of the next key was caught, by what its reader asks
 abbrev pub IsCaught : Ask → Entries → Option (List ℕ) → Type 0
 IsCaught asks no_entries caught = Unit {0}
-IsCaught asks (entry k v es) caught = caught ≡ text_of (offer_of k asks)
+IsCaught asks (entry k v es) caught = caught ≡ key_text (offer_of k asks)
 
 -- the outcomes of the value that waits, under its entry's segment
 abbrev pub IsValue : {A : Type 0} → Segment → (Source → Outcome A → Type 0) → Option Source → Outcome A → Type 0

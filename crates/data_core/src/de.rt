@@ -5,7 +5,7 @@ ghost use Rattle.data_core.specs.Source.{Source, count, count_entries, offer_of,
 ghost use Rattle.data_core.specs.Source as offer;
 ghost use Rattle.data_core.specs.Wanted as wanted;
 ghost use Rattle.data_core.specs.Sequence.{Sequence, Takes, Ends, surplus};
-ghost use Rattle.data_core.specs.Table.{Table, TakesKey, TakesValue, Catches, text_of, with_caught, value_taken, entry_segment, surplus_entries};
+ghost use Rattle.data_core.specs.Table.{Table, TakesKey, TakesValue, Catches, key_text, with_caught, value_taken, entry_segment, surplus_entries};
 ghost use Rattle.data_core.specs.Choice.{Choice, name_caught, variant_segment};
 ghost use Rattle.data_core.specs.Show.{Shows, Begins, Hands, elements_of, entries_of};
 ghost use Rattle.data_core.specs.Tracking.{Leaves, LeavesKey, LeavesName, marked};
@@ -80,15 +80,15 @@ pub trait Deserializer: Drop {
         ensures takes { Takes source Self.Error.fault result (sequence seq.old) (sequence seq.new) }
         ensures checks { (sequence seq.new).checks ≡ (sequence seq.old).checks };
 
-    /// The way out of the read of the element that was taken last. `held` says whether the track held
+    /// The way out of the read of the element that was taken last. `before` says whether the track held
     /// a refusal before that read, and `failed` whether the read failed.
     fn leave_element(
         seq: &mut Self::Seq,
-        held: bool,
+        before: bool,
         failed: bool,
         track: &mut Track,
     ) -> Result<(), Self::Error>
-        ensures path { Leaves Self.Error.fault tracks (segment.Seq ((sequence seq.old).taken - 1)) held failed
+        ensures path { Leaves Self.Error.fault tracks (segment.Seq ((sequence seq.old).taken - 1)) before failed
             track.old track.new result }
         ensures lost { tracks ≡ true → OnOk result (IsTrue failed → track.new ≢ marked) }
         ensures sequence { OnOk result (sequence seq.new ≡ sequence seq.old) };
@@ -118,18 +118,18 @@ pub trait Deserializer: Drop {
             (offer_of (source key) (ask hint.entry)) }
         ensures begins { IfOk result (Begins sequence table) }
         ensures caught { tracks ≡ true → Catches Self.Error.fault result (table map.new).caught
-            (text_of (offer_of (source key) (ask hint.entry))) }
+            (key_text (offer_of (source key) (ask hint.entry))) }
         ensures table { table map.new ≡ with_caught (table map.new).caught (table map.old) };
 
-    /// The way out of the read of the key that was taken last, with `held` and `failed` as in
+    /// The way out of the read of the key that was taken last, with `before` and `failed` as in
     /// `leave_element`. Where the read failed, the text of the key goes into the path.
     fn leave_key(
         map: &mut Self::Map,
-        held: bool,
+        before: bool,
         failed: bool,
         track: &mut Track,
     ) -> Result<(), Self::Error>
-        ensures path { LeavesKey Self.Error.fault tracks (entry_segment (table map.old).caught) held failed
+        ensures path { LeavesKey Self.Error.fault tracks (entry_segment (table map.old).caught) before failed
             track.old track.new result }
         ensures lost { tracks ≡ true → OnOk result (IsTrue failed → track.new ≢ marked) }
         ensures table { OnOk result (table map.new ≡ with_caught (table map.new).caught (table map.old)) }
@@ -141,15 +141,15 @@ pub trait Deserializer: Drop {
         ensures takes { TakesValue source Self.Error.fault result (table map.old).waiting }
         ensures table { OnOk result (table map.new ≡ value_taken (table map.old)) };
 
-    /// The way out of the read of the value that was taken last, with `held` and `failed` as in
+    /// The way out of the read of the value that was taken last, with `before` and `failed` as in
     /// `leave_element`. The text of its key goes into the path of a refusal.
     fn leave_value(
         map: &mut Self::Map,
-        held: bool,
+        before: bool,
         failed: bool,
         track: &mut Track,
     ) -> Result<(), Self::Error>
-        ensures path { Leaves Self.Error.fault tracks (entry_segment (table map.old).caught) held failed
+        ensures path { Leaves Self.Error.fault tracks (entry_segment (table map.old).caught) before failed
             track.old track.new result }
         ensures lost { tracks ≡ true → OnOk result (IsTrue failed → track.new ≢ marked) }
         ensures table { OnOk result (table map.new ≡ with_caught (table map.new).caught (table map.old)) };
@@ -174,18 +174,18 @@ pub trait Deserializer: Drop {
             (offer_of (source name) (ask hint.entry)) }
         ensures begins { IfOk result (Begins sequence table) }
         ensures caught { tracks ≡ true → Catches Self.Error.fault result (choice variant.new).caught
-            (text_of (offer_of (source name) (ask hint.entry))) }
+            (key_text (offer_of (source name) (ask hint.entry))) }
         ensures choice { choice variant.new ≡ name_caught (choice variant.new).caught (choice variant.old) };
 
-    /// The way out of the read of a variant's name, with `held` and `failed` as in `leave_element`.
+    /// The way out of the read of a variant's name, with `before` and `failed` as in `leave_element`.
     /// The refusal of a name is that of the enum itself.
     fn leave_name(
         variant: &mut Self::Variant,
-        held: bool,
+        before: bool,
         failed: bool,
         track: &mut Track,
     ) -> Result<(), Self::Error>
-        ensures path { LeavesName Self.Error.fault tracks held failed track.old track.new result }
+        ensures path { LeavesName Self.Error.fault tracks before failed track.old track.new result }
         ensures lost { tracks ≡ true → OnOk result (IsTrue failed → track.new ≢ marked) }
         ensures choice { OnOk result (choice variant.new ≡ choice variant.old) };
 
@@ -221,15 +221,15 @@ pub trait Deserializer: Drop {
         ensures begins { IfOk result (λ map. (table map).taken ≡ 0) }
         ensures caught { (choice variant.new).caught ≡ (choice variant.old).caught };
 
-    /// The way out of the read of a variant's payload, with `held` and `failed` as in
+    /// The way out of the read of a variant's payload, with `before` and `failed` as in
     /// `leave_element`. The text of the variant's name goes into the path of a refusal.
     fn leave_payload(
         variant: &mut Self::Variant,
-        held: bool,
+        before: bool,
         failed: bool,
         track: &mut Track,
     ) -> Result<(), Self::Error>
-        ensures path { Leaves Self.Error.fault tracks (variant_segment (choice variant.old).caught) held failed
+        ensures path { Leaves Self.Error.fault tracks (variant_segment (choice variant.old).caught) before failed
             track.old track.new result }
         ensures lost { tracks ≡ true → OnOk result (IsTrue failed → track.new ≢ marked) };
 }

@@ -2,7 +2,7 @@
 ghost use Rattle.std.specs.Prelude.{◌≡◌, true, IfOk, IsSome, OnOk};
 ghost use Rattle.data_core.specs.Source.{offer_of};
 ghost use Rattle.data_core.specs.Sequence.{rest_of, place_after, IsNext};
-ghost use Rattle.data_core.specs.Table.{IsKey, IsValue, IsCaught, Catches, text_of, rest_of_entries, taken_after, value_of, entry_segment, with_caught};
+ghost use Rattle.data_core.specs.Table.{IsKey, IsValue, IsCaught, Catches, key_text, rest_of_entries, taken_after, value_of, entry_segment, with_caught};
 ghost use Rattle.data_core.specs.Outcome.{Among};
 ghost use Rattle.data_core.specs.declared.path.Segment.{Segment};
 
@@ -31,9 +31,9 @@ pub fn next_element_seed<D: Deserializer, S: DeserializeSeed>(
     let Some(element) = D::next_element(seq)? else {
         return Ok(None);
     };
-    let held = track.holds();
+    let before = track.holds();
     let value = seed.deserialize(alloc, element, track);
-    D::leave_element(seq, held, value.is_err(), track)?;
+    D::leave_element(seq, before, value.is_err(), track)?;
     Ok(Some(value?))
 }
 
@@ -60,9 +60,9 @@ pub fn next_key_seed<D: Deserializer, S: DeserializeSeed>(
     let Some(key) = D::next_key(map)? else {
         return Ok(None);
     };
-    let held = track.holds();
+    let before = track.holds();
     let value = visit_key(alloc, map, key, seed, track);
-    D::leave_key(map, held, value.is_err(), track)?;
+    D::leave_key(map, before, value.is_err(), track)?;
     Ok(Some(value?))
 }
 
@@ -77,7 +77,7 @@ fn visit_key<D: Deserializer, S: DeserializeSeed>(
     ensures reads { Among D.Error.fault D.tracks result
         (S.reads seed (offer_of (D.source key) (S.asks seed))) track.old track.new }
     ensures caught { D.tracks ≡ true → Catches D.Error.fault result (D.table map.new).caught
-        (text_of (offer_of (D.source key) (S.asks seed))) }
+        (key_text (offer_of (D.source key) (S.asks seed))) }
     ensures table { D.table map.new ≡ with_caught (D.table map.new).caught (D.table map.old) }
 {
     let shown = D::show_key(map, key, seed.hint())?;
@@ -102,8 +102,8 @@ pub fn next_value_seed<D: Deserializer, S: DeserializeSeed>(
     ensures checks { OnOk result ((D.table map.new).checks ≡ (D.table map.old).checks) }
 {
     let value = D::next_value(map)?;
-    let held = track.holds();
+    let before = track.holds();
     let value = seed.deserialize(alloc, value, track);
-    D::leave_value(map, held, value.is_err(), track)?;
+    D::leave_value(map, before, value.is_err(), track)?;
     value
 }

@@ -2,7 +2,7 @@
 ghost use Rattle.std.specs.Prelude.{◌≡◌, true, OnOk};
 ghost use Rattle.data_core.specs.Source.{offer_of};
 ghost use Rattle.data_core.specs.Wanted as wanted;
-ghost use Rattle.data_core.specs.Table.{Catches, text_of};
+ghost use Rattle.data_core.specs.Table.{Catches, key_text};
 ghost use Rattle.data_core.specs.Choice.{IsName, IsNothing, IsInside, name_caught, variant_segment};
 ghost use Rattle.data_core.specs.Outcome.{Among, IsUnder};
 ghost use Rattle.data_core.specs.declared.path.Segment.{Segment};
@@ -24,12 +24,12 @@ pub fn variant_seed<D: Deserializer, S: DeserializeSeed>(
 ) -> Result<S::Value, D::Error>
     ensures reads { Among D.Error.fault D.tracks result
         (IsName (λ source. S.reads seed (offer_of source (S.asks seed))) (D.source name)) track.old track.new }
-    ensures caught { D.tracks ≡ true → OnOk result ((D.choice variant.new).caught ≡ text_of (offer_of (D.source name) (S.asks seed))) }
+    ensures caught { D.tracks ≡ true → OnOk result ((D.choice variant.new).caught ≡ key_text (offer_of (D.source name) (S.asks seed))) }
     ensures payload { OnOk result ((D.choice variant.new).payload ≡ (D.choice variant.old).payload) }
 {
-    let held = track.holds();
+    let before = track.holds();
     let value = visit_name(alloc, variant, name, seed, track);
-    D::leave_name(variant, held, value.is_err(), track)?;
+    D::leave_name(variant, before, value.is_err(), track)?;
     value
 }
 
@@ -44,7 +44,7 @@ fn visit_name<D: Deserializer, S: DeserializeSeed>(
     ensures reads { Among D.Error.fault D.tracks result
         (S.reads seed (offer_of (D.source name) (S.asks seed))) track.old track.new }
     ensures caught { D.tracks ≡ true → Catches D.Error.fault result (D.choice variant.new).caught
-        (text_of (offer_of (D.source name) (S.asks seed))) }
+        (key_text (offer_of (D.source name) (S.asks seed))) }
     ensures choice { D.choice variant.new ≡ name_caught (D.choice variant.new).caught (D.choice variant.old) }
 {
     let shown = D::show_name(variant, name, seed.hint())?;
@@ -63,9 +63,9 @@ pub fn unit_variant<D: Deserializer>(
         (IsUnder segment (IsNothing ((D.choice variant.old).payload wanted.unit)))
         track.old track.new }
 {
-    let held = track.holds();
+    let before = track.holds();
     let end = D::unit_variant(alloc, variant);
-    D::leave_payload(variant, held, end.is_err(), track)?;
+    D::leave_payload(variant, before, end.is_err(), track)?;
     end
 }
 
@@ -82,9 +82,9 @@ pub fn newtype_variant_seed<D: Deserializer, S: DeserializeSeed>(
         (IsUnder segment (IsInside (λ source. S.reads seed (offer_of source (S.asks seed))) ((D.choice variant.old).payload wanted.newtype)))
         track.old track.new }
 {
-    let held = track.holds();
+    let before = track.holds();
     let value = read_inside::<D, S>(alloc, variant, seed, track);
-    D::leave_payload(variant, held, value.is_err(), track)?;
+    D::leave_payload(variant, before, value.is_err(), track)?;
     value
 }
 
@@ -119,9 +119,9 @@ pub fn tuple_variant<D: Deserializer, S: DeserializeSeed>(
         (IsUnder segment (S.reads seed ((D.choice variant.old).payload (wanted.tuple len))))
         track.old track.new }
 {
-    let held = track.holds();
+    let before = track.holds();
     let value = visit_elements::<D, S>(alloc, variant, len, seed, track);
-    D::leave_payload(variant, held, value.is_err(), track)?;
+    D::leave_payload(variant, before, value.is_err(), track)?;
     value
 }
 
@@ -156,9 +156,9 @@ pub fn struct_variant<D: Deserializer, S: DeserializeSeed>(
         (IsUnder segment (S.reads seed ((D.choice variant.old).payload (wanted.struct fields.now))))
         track.old track.new }
 {
-    let held = track.holds();
+    let before = track.holds();
     let value = visit_fields::<D, S>(alloc, variant, fields, seed, track);
-    D::leave_payload(variant, held, value.is_err(), track)?;
+    D::leave_payload(variant, before, value.is_err(), track)?;
     value
 }
 

@@ -2,21 +2,19 @@
 //! and writes nothing to standard error.
 #![tactic(auto)]
 
-mod stdio;
-
+use byte_streams::{ReadSource, WriteSink};
 use capture::{Status, run};
 use data_core::{Names, Text};
 use std::env;
 use std::io::ErrorKind;
 use std::process::ExitCode;
 use std::rt::Env;
-use stdio::{StdOut, StdSource};
 
 fn main(rt: HostRuntime) -> ExitCode {
     let status = match words(&rt) {
         Ok(words) => {
-            let mut source = StdSource::new(rt.stdin());
-            let mut out = StdOut::new(rt.stdout());
+            let mut source = ReadSource::new(rt.stdin());
+            let mut out = WriteSink::new(rt.stdout());
             run(rt.alloc(), &words, &mut source, &mut out)
         }
         Err(status) => status,

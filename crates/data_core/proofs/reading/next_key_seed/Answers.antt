@@ -1,7 +1,7 @@
 use Rattle.std.proofs.Common.{◌≡◌, true, rules}
 use Rattle.std.proofs.lemmas.Result.{err_from_is_err_and}
 use Rattle.data_core.specs.Source.{offer_of}
-use Rattle.data_core.specs.Table.{CatchesUnless, entry_segment, text_of}
+use Rattle.data_core.specs.Table.{CatchesUnless, entry_segment, key_text}
 use Rattle.data_core.specs.Tracking.{left_key}
 use Rattle.data_core.proofs.Relations.{RefusedAmong-key}
 use Rattle.data_core.proofs.reading.next_key_seed.Goals as goal
@@ -18,7 +18,7 @@ returns-in_err-value-clause-reads g c =
     let taken = rw c.in-Some.is at c.in_ok-key.ensures.takes in
     let was = c.in_err-value.was in
     let refusal = rw was at c.visit_key-value.ensures.reads in
-    let caught : de.tracks ≡ true → CatchesUnless fault own (text_of (offer_of key asks)) = λ t. rw was at c.visit_key-value.ensures.caught t in
-    let on_way_out : c.leave_key.new.track ≡ left_key de.tracks (entry_segment own) c.holds-held.result true c.visit_key-value.new.track = search rules in
+    let caught : de.tracks ≡ true → CatchesUnless fault own (key_text (offer_of key asks)) = λ t. rw was at c.visit_key-value.ensures.caught t in
+    let on_way_out : c.leave_key.new.track ≡ left_key de.tracks (entry_segment own) c.holds-before.result true c.visit_key-value.new.track = search rules in
     rw (p.1, p.2, taken.1)
-    (RefusedAmong-key de.tracks c.holds-held.result asks (λ source. read.reads c.args.seed (offer_of source asks)) own key taken.0 (de.table c.next_key.new.map).left fault c.args.track.now c.visit_key-value.new.track c.leave_key.new.track c.holds-held.ensures caught refusal on_way_out)
+    (RefusedAmong-key de.tracks c.holds-before.result asks (λ source. read.reads c.args.seed (offer_of source asks)) own key taken.0 (de.table c.next_key.new.map).left fault c.args.track.now c.visit_key-value.new.track c.leave_key.new.track c.holds-before.ensures caught refusal on_way_out)

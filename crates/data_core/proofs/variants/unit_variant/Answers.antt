@@ -13,5 +13,5 @@ returns g c segment same =
     let offered = (de.choice c.args.variant.now).payload wanted.unit in
     let track = c.args.track.now in
     let ended = Among-nothing fault de.tracks c.unit_variant-end.result offered track c.unit_variant-end.ensures.hands in
-    let on_way_out : c.leave_payload.new.track ≡ left de.tracks own c.holds-held.result (is_err c.unit_variant-end.result) track = search rules in
-    Among-under fault de.tracks c.holds-held.result (IsNothing offered) own segment c.unit_variant-end.result track track c.leave_payload.new.track c.holds-held.ensures same ended on_way_out
+    let on_way_out : c.leave_payload.new.track ≡ left de.tracks own c.holds-before.result (is_err c.unit_variant-end.result) track = search rules in
+    Among-under fault de.tracks c.holds-before.result (IsNothing offered) own segment c.unit_variant-end.result track track c.leave_payload.new.track c.holds-before.ensures same ended on_way_out

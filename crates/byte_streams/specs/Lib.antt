@@ -1,0 +1,5 @@
+pub mod Outside
+pub mod SteadySource
+pub mod MemorySink
+pub mod Calls
+pub mod MemorySource
