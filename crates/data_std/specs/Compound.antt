@@ -6,7 +6,7 @@ use Rattle.data_core.specs.declared.path.Segment.TheVariants.{Seq}
 use Rattle.data_core.specs.Source.{Source, Offer, scalar, none, unit, some, elements, Sources, end, more}
 use Rattle.data_core.specs.Sequence.{rest_of, surplus}
 use Rattle.data_core.specs.Outcome.{Outcome, given, refused, IsUnder, not_taken}
-use Rattle.data_std.specs.Reads.{IsOutcome, AndThen}
+use Rattle.data_core.specs.Reads.{IsOutcome, AndThen}
 
 -- nothing for what is absent or a unit, and else something of what the inside is read as
 abbrev pub OptionReads : {T : Type 0} → (Source → Outcome T → Type 0) → Offer → Outcome (Option T) → Type 0

@@ -1,13 +1,3 @@
-pub mod Reads
 pub mod Ignored
-pub mod ErrorView
-pub mod Scalars
-pub mod Integer
 pub mod Compound
 pub mod Pairs
-pub mod Waiting
-pub mod Items
-pub mod Sequences
-pub mod PairSources
-pub mod MapSources
-pub mod Texts

@@ -7,7 +7,7 @@ use Rattle.data_core.specs.Ask.{Ask}
 use Rattle.data_core.specs.Source.{Source, Offer, entries, Entries, no_entries, entry}
 use Rattle.data_core.specs.Table.{segment_of_key}
 use Rattle.data_core.specs.Outcome.{Outcome, given, IsUnder, not_taken}
-use Rattle.data_std.specs.Reads.{IsOutcome, AtKey, AndThen}
+use Rattle.data_core.specs.Reads.{IsOutcome, AtKey, AndThen}
 
 -- a key and then its value, both at the segment of their entry
 abbrev pub PairReads : {K V : Type 0} → Segment → (Outcome K → Type 0) → (Outcome V → Type 0) → Outcome (K × V) → Type 0

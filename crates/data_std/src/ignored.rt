@@ -2,7 +2,7 @@
 ghost use Rattle.std.specs.Prelude.{◌≡◌, true, Some, OnOk, IsSome};
 ghost use Rattle.data_core.specs.Ask.{ignored_any};
 ghost use Rattle.data_core.specs.Source.{Source, end, no_entries, offer_of};
-ghost use Rattle.data_core.specs.Table.{Catches, text_of, with_caught, entry_segment, segment_of_key};
+ghost use Rattle.data_core.specs.Table.{Catches, key_text, with_caught, entry_segment, segment_of_key};
 ghost use Rattle.data_core.specs.Source as offer;
 ghost use Rattle.data_core.specs.Wanted.{newtype};
 ghost use Rattle.data_core.specs.Choice.{name_caught, variant_segment};
@@ -10,7 +10,7 @@ ghost use Rattle.data_core.specs.declared.path.Segment.{Segment};
 ghost use Rattle.data_core.specs.Show.{shown_offer, Begins};
 ghost use Rattle.data_core.specs.Outcome.{under, bare, Gives};
 ghost use Rattle.data_std.specs.Ignored.{ignored, ignored_offer, ignored_rest, ignored_entries, ignored_pair, at_key};
-ghost use Rattle.data_std.specs.Reads.{IsOutcome};
+ghost use Rattle.data_core.specs.Reads.{IsOutcome};
 
 use crate::types::Deserialize;
 use data_core::{DeserializeSeed, Deserializer, Hint, Shown, Track};
@@ -71,9 +71,9 @@ pub fn ignore_rest<D: Deserializer>(
     ensures left { OnOk result ((D.sequence seq.new).left ≡ end) }
 {
     'elements: while let Some(element) = D::next_element(seq)? {
-        let held = track.holds();
+        let before = track.holds();
         let read = ignore(alloc, element, track);
-        D::leave_element(seq, held, read.is_err(), track)?;
+        D::leave_element(seq, before, read.is_err(), track)?;
         read?;
     }
     Ok(())
@@ -124,12 +124,12 @@ fn ignore_key<D: Deserializer>(
 ) -> Result<(), D::Error>
     ensures value { Gives D.Error.fault D.tracks (λ u. u) result
         (at_key (segment_of_key ignored_any (D.source key)) (ignored (D.source key))) track.old track.new }
-    ensures caught { D.tracks ≡ true → OnOk result ((D.table map.new).caught ≡ text_of (offer_of (D.source key) ignored_any)) }
+    ensures caught { D.tracks ≡ true → OnOk result ((D.table map.new).caught ≡ key_text (offer_of (D.source key) ignored_any)) }
     ensures table { OnOk result (D.table map.new ≡ with_caught (D.table map.new).caught (D.table map.old)) }
 {
-    let held = track.holds();
+    let before = track.holds();
     let read = visit_key(alloc, map, key, track);
-    D::leave_key(map, held, read.is_err(), track)?;
+    D::leave_key(map, before, read.is_err(), track)?;
     read
 }
 
@@ -143,7 +143,7 @@ fn visit_key<D: Deserializer>(
 ) -> Result<(), D::Error>
     ensures value { Gives D.Error.fault D.tracks (λ u. u) result (ignored (D.source key)) track.old track.new }
     ensures caught { D.tracks ≡ true → Catches D.Error.fault result (D.table map.new).caught
-        (text_of (offer_of (D.source key) ignored_any)) }
+        (key_text (offer_of (D.source key) ignored_any)) }
     ensures table { D.table map.new ≡ with_caught (D.table map.new).caught (D.table map.old) }
 {
     let shown = D::show_key(map, key, Hint::IgnoredAny)?;
@@ -165,9 +165,9 @@ pub fn ignore_value<D: Deserializer>(
     ensures left { OnOk result ((D.table map.new).left ≡ (D.table map.old).left) }
 {
     let value = D::next_value(map)?;
-    let held = track.holds();
+    let before = track.holds();
     let read = ignore(alloc, value, track);
-    D::leave_value(map, held, read.is_err(), track)?;
+    D::leave_value(map, before, read.is_err(), track)?;
     read
 }
 
@@ -233,12 +233,12 @@ fn ignore_name<D: Deserializer>(
     track: &mut Track,
 ) -> Result<(), D::Error>
     ensures value { Gives D.Error.fault D.tracks (λ u. u) result (bare (ignored (D.source name))) track.old track.new }
-    ensures caught { D.tracks ≡ true → OnOk result ((D.choice variant.new).caught ≡ text_of (offer_of (D.source name) ignored_any)) }
+    ensures caught { D.tracks ≡ true → OnOk result ((D.choice variant.new).caught ≡ key_text (offer_of (D.source name) ignored_any)) }
     ensures payload { OnOk result ((D.choice variant.new).payload ≡ (D.choice variant.old).payload) }
 {
-    let held = track.holds();
+    let before = track.holds();
     let read = visit_name(alloc, variant, name, track);
-    D::leave_name(variant, held, read.is_err(), track)?;
+    D::leave_name(variant, before, read.is_err(), track)?;
     read
 }
 
@@ -252,7 +252,7 @@ fn visit_name<D: Deserializer>(
 ) -> Result<(), D::Error>
     ensures value { Gives D.Error.fault D.tracks (λ u. u) result (ignored (D.source name)) track.old track.new }
     ensures caught { D.tracks ≡ true → Catches D.Error.fault result (D.choice variant.new).caught
-        (text_of (offer_of (D.source name) ignored_any)) }
+        (key_text (offer_of (D.source name) ignored_any)) }
     ensures choice { D.choice variant.new ≡ name_caught (D.choice variant.new).caught (D.choice variant.old) }
 {
     let shown = D::show_name(variant, name, Hint::IgnoredAny)?;
@@ -270,9 +270,9 @@ fn ignore_payload<D: Deserializer>(
         → Gives D.Error.fault D.tracks (λ u. u) result
         (under segment (ignored_offer ((D.choice variant.old).payload newtype))) track.old track.new }
 {
-    let held = track.holds();
+    let before = track.holds();
     let read = ignore_inside::<D>(alloc, variant, track);
-    D::leave_payload(variant, held, read.is_err(), track)?;
+    D::leave_payload(variant, before, read.is_err(), track)?;
     read
 }
 

@@ -1,149 +1,12 @@
-//! Readers of integers.
-ghost use Rattle.std.specs.Prelude.{◌≡◌, ◌-◌, ◌^◌, ℤ, pos, negsuc, refl};
+//! The integer types have readers of their own.
+ghost use Rattle.std.specs.Prelude.{◌-◌, ◌^◌, pos, negsuc};
 ghost use Rattle.data_core.specs.Ask as asks;
-ghost use Rattle.data_core.specs.Ask.{Ask, ask};
-ghost use Rattle.data_core.specs.Source.{scalar};
-ghost use Rattle.data_core.specs.Source as offer;
-ghost use Rattle.data_core.specs.Show.{shown_offer};
-ghost use Rattle.data_core.specs.Outcome.{Answers};
-ghost use Rattle.data_std.specs.Integer.{IsMade};
-ghost use Rattle.data_std.specs.Reads.{IsOutcome};
-ghost use Rattle.data_std.specs.Scalars.{integer_of};
+ghost use Rattle.data_core.specs.Reads.{IsOutcome};
+ghost use Rattle.scalar_seeds.specs.Scalars.{integer_of, wide_of};
 
 use crate::types::Deserialize;
-use data_core::{
-    DeError, DeserializeSeed, Deserializer, Hint, Scalar, Shown, Track, Unexpected, refused,
-};
+use scalar_seeds::{IntegerSeed, WideIntegerSeed};
 use std::alloc::{AllocError, Global};
-use std::marker::PhantomData;
-
-/// An integer type of up to 64 bits. It is this project's own, and has one reader for all eight.
-pub trait Integer: Drop + Sized {
-    ghost asks: { Ask };
-
-    ghost least: { ℤ };
-
-    ghost greatest: { ℤ };
-
-    ghost number: { Self → ℤ };
-
-    /// What its reader hopes for.
-    fn hint() -> Hint<'static>
-        ensures { ask result ≡ asks };
-
-    /// Its name, which a refusal shows as what was expected.
-    fn name() -> &'static str;
-
-    /// The integer of that number, where it is in range.
-    fn from_unsigned(n: u64) -> Option<Self>
-        ensures { IsMade least greatest number (pos n) result };
-
-    /// The integer of that number, where it is in range.
-    fn from_signed(n: i64) -> Option<Self>
-        ensures { IsMade least greatest number n result };
-}
-
-/// The reader of an integer type: it takes every integer of up to 64 bits that is in range.
-#[derive(Drop)]
-pub struct IntegerSeed<N: Integer> {
-    of: PhantomData<N>,
-}
-
-impl<N: Integer> DeserializeSeed for IntegerSeed<N> {
-    type Value = N;
-
-    ghost asks = { λ _. N.asks };
-
-    ghost reads = { λ _ offer outcome. IsOutcome N.number (integer_of N.least N.greatest offer) outcome };
-
-    fn hint(&self) -> Hint<'_> {
-        N::hint()
-    }
-
-    fn visit<D: Deserializer>(
-        self,
-        alloc: Global,
-        shown: Shown<D>,
-        _track: &mut Track,
-    ) -> Result<N, D::Error> {
-        visit_integer::<D, N>(alloc, shown)
-    }
-
-    ghost passes_refusals = { λ _ _. refl };
-}
-
-// What a reader of that integer type makes of an integer of up to 64 bits, and of what it does not take.
-pub(crate) fn visit_integer<D: Deserializer, N: Integer>(
-    alloc: Global,
-    shown: Shown<D>,
-) -> Result<N, D::Error>
-    ensures { Answers D.Error.fault N.number result
-        (integer_of N.least N.greatest (shown_offer D.Text.text D.Bytes.bytes D.source D.sequence D.table D.choice shown)) }
-{
-    match shown {
-        Shown::Scalar(Scalar::U8(n)) => unsigned::<D, N>(alloc, u64::from(n)),
-        Shown::Scalar(Scalar::U16(n)) => unsigned::<D, N>(alloc, u64::from(n)),
-        Shown::Scalar(Scalar::U32(n)) => unsigned::<D, N>(alloc, u64::from(n)),
-        Shown::Scalar(Scalar::U64(n)) => unsigned::<D, N>(alloc, n),
-        Shown::Scalar(Scalar::I8(n)) => signed::<D, N>(alloc, i64::from(n)),
-        Shown::Scalar(Scalar::I16(n)) => signed::<D, N>(alloc, i64::from(n)),
-        Shown::Scalar(Scalar::I32(n)) => signed::<D, N>(alloc, i64::from(n)),
-        Shown::Scalar(Scalar::I64(n)) => signed::<D, N>(alloc, n),
-        other => Err(refused(alloc, other, N::name())),
-    }
-}
-
-// An integer that was shown as an unsigned one.
-fn unsigned<D: Deserializer, N: Integer>(alloc: Global, n: u64) -> Result<N, D::Error>
-    ensures { Answers D.Error.fault N.number result
-        (integer_of N.least N.greatest (scalar (offer.unsigned n))) }
-{
-    match N::from_unsigned(n) {
-        Some(n) => Ok(n),
-        None => Err(D::Error::invalid_value(alloc, Unexpected::Unsigned(n), N::name())),
-    }
-}
-
-// An integer that was shown as a signed one.
-fn signed<D: Deserializer, N: Integer>(alloc: Global, n: i64) -> Result<N, D::Error>
-    ensures { Answers D.Error.fault N.number result
-        (integer_of N.least N.greatest (scalar (offer.signed n))) }
-{
-    match N::from_signed(n) {
-        Some(n) => Ok(n),
-        None => Err(D::Error::invalid_value(alloc, Unexpected::Signed(n), N::name())),
-    }
-}
-
-fn integer_seed<N: Integer>() -> IntegerSeed<N> {
-    IntegerSeed { of: PhantomData }
-}
-
-impl Integer for u8 {
-    ghost asks = { asks.u8 };
-
-    ghost least = { pos 0 };
-
-    ghost greatest = { pos (2 ^ 8 - 1) };
-
-    ghost number = { pos };
-
-    fn hint() -> Hint<'static> {
-        Hint::U8
-    }
-
-    fn name() -> &'static str {
-        "u8"
-    }
-
-    fn from_unsigned(n: u64) -> Option<u8> {
-        u8::try_from(n).ok()
-    }
-
-    fn from_signed(n: i64) -> Option<u8> {
-        u8::try_from(n).ok()
-    }
-}
 
 impl Deserialize for u8 {
     type Seed = IntegerSeed<u8>;
@@ -153,33 +16,7 @@ impl Deserialize for u8 {
     ghost reads = { λ offer outcome. IsOutcome (pos) (integer_of (pos 0) (pos (2 ^ 8 - 1)) offer) outcome };
 
     fn seed(_alloc: Global) -> Result<IntegerSeed<u8>, AllocError> {
-        Ok(integer_seed())
-    }
-}
-
-impl Integer for u16 {
-    ghost asks = { asks.u16 };
-
-    ghost least = { pos 0 };
-
-    ghost greatest = { pos (2 ^ 16 - 1) };
-
-    ghost number = { pos };
-
-    fn hint() -> Hint<'static> {
-        Hint::U16
-    }
-
-    fn name() -> &'static str {
-        "u16"
-    }
-
-    fn from_unsigned(n: u64) -> Option<u16> {
-        u16::try_from(n).ok()
-    }
-
-    fn from_signed(n: i64) -> Option<u16> {
-        u16::try_from(n).ok()
+        Ok(IntegerSeed::new())
     }
 }
 
@@ -191,33 +28,7 @@ impl Deserialize for u16 {
     ghost reads = { λ offer outcome. IsOutcome (pos) (integer_of (pos 0) (pos (2 ^ 16 - 1)) offer) outcome };
 
     fn seed(_alloc: Global) -> Result<IntegerSeed<u16>, AllocError> {
-        Ok(integer_seed())
-    }
-}
-
-impl Integer for u32 {
-    ghost asks = { asks.u32 };
-
-    ghost least = { pos 0 };
-
-    ghost greatest = { pos (2 ^ 32 - 1) };
-
-    ghost number = { pos };
-
-    fn hint() -> Hint<'static> {
-        Hint::U32
-    }
-
-    fn name() -> &'static str {
-        "u32"
-    }
-
-    fn from_unsigned(n: u64) -> Option<u32> {
-        u32::try_from(n).ok()
-    }
-
-    fn from_signed(n: i64) -> Option<u32> {
-        u32::try_from(n).ok()
+        Ok(IntegerSeed::new())
     }
 }
 
@@ -229,33 +40,7 @@ impl Deserialize for u32 {
     ghost reads = { λ offer outcome. IsOutcome (pos) (integer_of (pos 0) (pos (2 ^ 32 - 1)) offer) outcome };
 
     fn seed(_alloc: Global) -> Result<IntegerSeed<u32>, AllocError> {
-        Ok(integer_seed())
-    }
-}
-
-impl Integer for u64 {
-    ghost asks = { asks.u64 };
-
-    ghost least = { pos 0 };
-
-    ghost greatest = { pos (2 ^ 64 - 1) };
-
-    ghost number = { pos };
-
-    fn hint() -> Hint<'static> {
-        Hint::U64
-    }
-
-    fn name() -> &'static str {
-        "u64"
-    }
-
-    fn from_unsigned(n: u64) -> Option<u64> {
-        u64::try_from(n).ok()
-    }
-
-    fn from_signed(n: i64) -> Option<u64> {
-        u64::try_from(n).ok()
+        Ok(IntegerSeed::new())
     }
 }
 
@@ -267,33 +52,7 @@ impl Deserialize for u64 {
     ghost reads = { λ offer outcome. IsOutcome (pos) (integer_of (pos 0) (pos (2 ^ 64 - 1)) offer) outcome };
 
     fn seed(_alloc: Global) -> Result<IntegerSeed<u64>, AllocError> {
-        Ok(integer_seed())
-    }
-}
-
-impl Integer for i8 {
-    ghost asks = { asks.i8 };
-
-    ghost least = { negsuc (2 ^ 7 - 1) };
-
-    ghost greatest = { pos (2 ^ 7 - 1) };
-
-    ghost number = { λ n. n };
-
-    fn hint() -> Hint<'static> {
-        Hint::I8
-    }
-
-    fn name() -> &'static str {
-        "i8"
-    }
-
-    fn from_unsigned(n: u64) -> Option<i8> {
-        i8::try_from(n).ok()
-    }
-
-    fn from_signed(n: i64) -> Option<i8> {
-        i8::try_from(n).ok()
+        Ok(IntegerSeed::new())
     }
 }
 
@@ -305,33 +64,7 @@ impl Deserialize for i8 {
     ghost reads = { λ offer outcome. IsOutcome (λ n. n) (integer_of (negsuc (2 ^ 7 - 1)) (pos (2 ^ 7 - 1)) offer) outcome };
 
     fn seed(_alloc: Global) -> Result<IntegerSeed<i8>, AllocError> {
-        Ok(integer_seed())
-    }
-}
-
-impl Integer for i16 {
-    ghost asks = { asks.i16 };
-
-    ghost least = { negsuc (2 ^ 15 - 1) };
-
-    ghost greatest = { pos (2 ^ 15 - 1) };
-
-    ghost number = { λ n. n };
-
-    fn hint() -> Hint<'static> {
-        Hint::I16
-    }
-
-    fn name() -> &'static str {
-        "i16"
-    }
-
-    fn from_unsigned(n: u64) -> Option<i16> {
-        i16::try_from(n).ok()
-    }
-
-    fn from_signed(n: i64) -> Option<i16> {
-        i16::try_from(n).ok()
+        Ok(IntegerSeed::new())
     }
 }
 
@@ -343,33 +76,7 @@ impl Deserialize for i16 {
     ghost reads = { λ offer outcome. IsOutcome (λ n. n) (integer_of (negsuc (2 ^ 15 - 1)) (pos (2 ^ 15 - 1)) offer) outcome };
 
     fn seed(_alloc: Global) -> Result<IntegerSeed<i16>, AllocError> {
-        Ok(integer_seed())
-    }
-}
-
-impl Integer for i32 {
-    ghost asks = { asks.i32 };
-
-    ghost least = { negsuc (2 ^ 31 - 1) };
-
-    ghost greatest = { pos (2 ^ 31 - 1) };
-
-    ghost number = { λ n. n };
-
-    fn hint() -> Hint<'static> {
-        Hint::I32
-    }
-
-    fn name() -> &'static str {
-        "i32"
-    }
-
-    fn from_unsigned(n: u64) -> Option<i32> {
-        i32::try_from(n).ok()
-    }
-
-    fn from_signed(n: i64) -> Option<i32> {
-        i32::try_from(n).ok()
+        Ok(IntegerSeed::new())
     }
 }
 
@@ -381,33 +88,7 @@ impl Deserialize for i32 {
     ghost reads = { λ offer outcome. IsOutcome (λ n. n) (integer_of (negsuc (2 ^ 31 - 1)) (pos (2 ^ 31 - 1)) offer) outcome };
 
     fn seed(_alloc: Global) -> Result<IntegerSeed<i32>, AllocError> {
-        Ok(integer_seed())
-    }
-}
-
-impl Integer for i64 {
-    ghost asks = { asks.i64 };
-
-    ghost least = { negsuc (2 ^ 63 - 1) };
-
-    ghost greatest = { pos (2 ^ 63 - 1) };
-
-    ghost number = { λ n. n };
-
-    fn hint() -> Hint<'static> {
-        Hint::I64
-    }
-
-    fn name() -> &'static str {
-        "i64"
-    }
-
-    fn from_unsigned(n: u64) -> Option<i64> {
-        i64::try_from(n).ok()
-    }
-
-    fn from_signed(n: i64) -> Option<i64> {
-        i64::try_from(n).ok()
+        Ok(IntegerSeed::new())
     }
 }
 
@@ -419,6 +100,30 @@ impl Deserialize for i64 {
     ghost reads = { λ offer outcome. IsOutcome (λ n. n) (integer_of (negsuc (2 ^ 63 - 1)) (pos (2 ^ 63 - 1)) offer) outcome };
 
     fn seed(_alloc: Global) -> Result<IntegerSeed<i64>, AllocError> {
-        Ok(integer_seed())
+        Ok(IntegerSeed::new())
+    }
+}
+
+impl Deserialize for u128 {
+    type Seed = WideIntegerSeed<u128>;
+
+    ghost asks = { asks.u128 };
+
+    ghost reads = { λ offer outcome. IsOutcome (pos) (wide_of (pos 0) (pos (2 ^ 128 - 1)) offer) outcome };
+
+    fn seed(_alloc: Global) -> Result<WideIntegerSeed<u128>, AllocError> {
+        Ok(WideIntegerSeed::new())
+    }
+}
+
+impl Deserialize for i128 {
+    type Seed = WideIntegerSeed<i128>;
+
+    ghost asks = { asks.i128 };
+
+    ghost reads = { λ offer outcome. IsOutcome (λ n. n) (wide_of (negsuc (2 ^ 127 - 1)) (pos (2 ^ 127 - 1)) offer) outcome };
+
+    fn seed(_alloc: Global) -> Result<WideIntegerSeed<i128>, AllocError> {
+        Ok(WideIntegerSeed::new())
     }
 }

@@ -2,7 +2,7 @@
 ghost use Rattle.std.specs.Prelude.{refl};
 ghost use Rattle.data_core.specs.Ask as asks;
 ghost use Rattle.data_core.specs.Outcome.{Among};
-ghost use Rattle.data_std.specs.Reads.{ReadsFrom};
+ghost use Rattle.data_core.specs.Reads.{ReadsFrom};
 ghost use Rattle.data_std.specs.Compound.{ElementsRead, ListReads};
 
 use crate::reading::next_element;

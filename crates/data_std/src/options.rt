@@ -1,7 +1,7 @@
 //! Readers of options.
 ghost use Rattle.std.specs.Prelude.{refl};
 ghost use Rattle.data_core.specs.Ask as asks;
-ghost use Rattle.data_std.specs.Reads.{ReadsFrom};
+ghost use Rattle.data_core.specs.Reads.{ReadsFrom};
 ghost use Rattle.data_std.specs.Compound.{OptionReads};
 
 use crate::reading::deserialize;

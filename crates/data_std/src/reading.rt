@@ -5,7 +5,7 @@ ghost use Rattle.data_core.specs.Sequence.{rest_of, place_after, IsNext};
 ghost use Rattle.data_core.specs.Table.{IsKey, IsValue, IsCaught, rest_of_entries, taken_after, value_of, entry_segment};
 ghost use Rattle.data_core.specs.declared.path.Segment.{Segment};
 ghost use Rattle.data_core.specs.Outcome.{Among};
-ghost use Rattle.data_std.specs.Reads.{ReadsFrom};
+ghost use Rattle.data_core.specs.Reads.{ReadsFrom};
 ghost use Rattle.data_std.specs.Pairs.{NextReads};
 
 use crate::types::Deserialize;

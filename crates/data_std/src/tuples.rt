@@ -3,7 +3,7 @@ ghost use Rattle.std.specs.Prelude.{◌≡◌, ◌+◌, ◌<◌, OnOk, refl};
 ghost use Rattle.data_core.specs.Ask as asks;
 ghost use Rattle.data_core.specs.Sequence.{rest_of};
 ghost use Rattle.data_core.specs.Outcome.{Among};
-ghost use Rattle.data_std.specs.Reads.{ReadsFrom};
+ghost use Rattle.data_core.specs.Reads.{ReadsFrom};
 ghost use Rattle.data_std.specs.Compound.{SequenceReads, PartReads, Parts1, Parts2, Parts3, Parts4};
 
 use crate::reading::next_element;

@@ -2,7 +2,7 @@
 ghost use Rattle.std.specs.Prelude.{◌≡◌, true, OnOk};
 ghost use Rattle.data_core.specs.Source.{offer_of};
 ghost use Rattle.data_core.specs.Wanted.{newtype};
-ghost use Rattle.data_core.specs.Table.{text_of};
+ghost use Rattle.data_core.specs.Table.{key_text};
 ghost use Rattle.data_core.specs.Choice.{IsName, IsInside, variant_segment};
 ghost use Rattle.data_core.specs.declared.path.Segment.{Segment};
 ghost use Rattle.data_core.specs.Outcome.{Among, IsUnder};
@@ -21,7 +21,7 @@ pub fn variant<D: Deserializer, T: Deserialize>(
 ) -> Result<T, D::Error>
     ensures reads { Among D.Error.fault D.tracks result
         (IsName (λ source. T.reads (offer_of source T.asks)) (D.source name)) track.old track.new }
-    ensures caught { D.tracks ≡ true → OnOk result ((D.choice variant.new).caught ≡ text_of (offer_of (D.source name) T.asks)) }
+    ensures caught { D.tracks ≡ true → OnOk result ((D.choice variant.new).caught ≡ key_text (offer_of (D.source name) T.asks)) }
     ensures payload { OnOk result ((D.choice variant.new).payload ≡ (D.choice variant.old).payload) }
 {
     match T::seed(alloc) {

@@ -2,7 +2,7 @@ use Rattle.std.proofs.Common.{◌≡◌, ◌++◌, ◌∷◌, [], rules, refl, i
 use Rattle.std.proofs.lemmas.Result.{err_from_is_err_and}
 use Rattle.data_core.specs.Sequence.{IsNext}
 use Rattle.data_core.specs.Outcome.{given, refused}
-use Rattle.data_std.specs.Reads.{ReadsFrom}
+use Rattle.data_core.specs.Reads.{ReadsFrom}
 use Rattle.data_std.specs.Compound.{ElementsRead}
 use Rattle.data_std.proofs.Elements.{RefusedAmong-whole, EachReads-more, EachReads-fails, EachReads-ends, after_more, after_end}
 use Rattle.data_std.proofs.lists.elements.Goals as goal

@@ -1,7 +1,7 @@
 use Rattle.std.proofs.Common.{◌≡◌}
 use Rattle.data_core.specs.Source.{count}
 use Rattle.data_core.specs.Tracking.{clear}
-use Rattle.data_std.specs.Reads.{ReadsFrom}
+use Rattle.data_core.specs.Reads.{ReadsFrom}
 use Rattle.data_std.specs.Compound.{EachReads}
 use Rattle.data_std.proofs.Elements.{after}
 use Rattle.data_std.proofs.lists.elements.Given as goal

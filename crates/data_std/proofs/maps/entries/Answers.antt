@@ -2,7 +2,7 @@ use Rattle.std.proofs.Common.{◌≡◌, ◌++◌, ◌∷◌, [], rules, ap, sym
 use Rattle.std.proofs.lemmas.Result.{err_from_is_err_and}
 use Rattle.std.specs.BTreeMap.{insert_entry}
 use Rattle.data_core.specs.Outcome.{given, refused}
-use Rattle.data_std.specs.Reads.{ReadsFrom}
+use Rattle.data_core.specs.Reads.{ReadsFrom}
 use Rattle.data_std.specs.Pairs.{NextReads, TableRead}
 use Rattle.data_std.proofs.Elements.{RefusedAmong-whole, after_none, after_more, after_end}
 use Rattle.data_std.proofs.Entries.{EntriesRead-more, EntriesRead-fails, EntriesRead-ends, inserted_push}

@@ -1,7 +1,7 @@
 use Rattle.std.proofs.Common.{◌≡◌, List, []}
 use Rattle.data_core.specs.Source.{count_entries}
 use Rattle.data_core.specs.Tracking.{clear}
-use Rattle.data_std.specs.Reads.{ReadsFrom}
+use Rattle.data_core.specs.Reads.{ReadsFrom}
 use Rattle.data_std.specs.Pairs.{EntriesRead, inserted}
 use Rattle.data_std.proofs.Elements.{after}
 use Rattle.data_std.proofs.maps.entries.Given as goal

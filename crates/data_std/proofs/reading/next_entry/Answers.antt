@@ -1,7 +1,7 @@
 use Rattle.std.proofs.Common.{◌≡◌, true}
 use Rattle.std.proofs.lemmas.Result.{err_from_is_err_and}
 use Rattle.data_core.specs.Table.{IsValue, entry_segment, value_of}
-use Rattle.data_std.specs.Reads.{ReadsFrom}
+use Rattle.data_core.specs.Reads.{ReadsFrom}
 use Rattle.data_std.specs.Pairs.{NextReads}
 use Rattle.data_std.proofs.Elements.{RefusedAmong-whole}
 use Rattle.data_std.proofs.Entries.{next_segment, next_segment_caught, NextReads-value, NextReads-both}

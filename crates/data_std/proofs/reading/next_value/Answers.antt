@@ -1,6 +1,6 @@
 use Rattle.data_core.specs.Source.{offer_of}
 use Rattle.data_core.specs.Table.{IsValue}
-use Rattle.data_std.specs.Reads.{ReadsFrom}
+use Rattle.data_core.specs.Reads.{ReadsFrom}
 use Rattle.data_std.proofs.Within.{Among-within, IsValue-within}
 use Rattle.data_std.proofs.reading.next_value.Goals as goal
 

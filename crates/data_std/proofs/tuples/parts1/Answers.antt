@@ -1,7 +1,7 @@
 use Rattle.std.proofs.Common.{◌+◌, refl, inr}
 use Rattle.std.proofs.lemmas.Result.{err_from_is_err_and}
 use Rattle.data_core.specs.Sequence.{rest_of, surplus}
-use Rattle.data_std.specs.Reads.{ReadsFrom}
+use Rattle.data_core.specs.Reads.{ReadsFrom}
 use Rattle.data_std.specs.Compound.{Parts1}
 use Rattle.data_std.proofs.Elements.{RefusedAmong-end}
 use Rattle.data_std.proofs.tuples.parts1.Goals as goal

@@ -1,7 +1,7 @@
 use Rattle.std.proofs.Common.{◌+◌, rules, refl, inl, inr}
 use Rattle.std.proofs.lemmas.Result.{err_from_is_err_and}
 use Rattle.data_core.specs.Sequence.{rest_of}
-use Rattle.data_std.specs.Reads.{ReadsFrom}
+use Rattle.data_core.specs.Reads.{ReadsFrom}
 use Rattle.data_std.specs.Compound.{Parts3}
 use Rattle.data_std.proofs.Elements.{RefusedAmong-whole}
 use Rattle.data_std.proofs.tuples.parts4.Goals as goal
