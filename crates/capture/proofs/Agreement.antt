@@ -10,8 +10,8 @@ use Rattle.data_core.specs.Wanted.{Wanted}
 use Rattle.data_core.specs.Wanted as wanted
 use Rattle.data_core.specs.Choice.{variant_segment, segment_of_variant}
 use Rattle.data_core.specs.Sequence.{surplus}
-use Rattle.data_core.specs.Table.{text_of as text_caught, entry_segment, segment_of_key}
-use Rattle.data_core.specs.Pairs.{put}
+use Rattle.data_core.specs.Table.{key_text as text_caught, entry_segment, segment_of_key}
+use Rattle.sorted_pairs.specs.Pairs.{put}
 use Rattle.data_core.specs.Outcome.{Outcome, given, refused, bare, and_then}
 use Rattle.data_std.specs.Ignored.{ignored, ignored_rest, ignored_entries, at_key}
 use Rattle.shape.specs.Fields.{Field, fields_of, place_of, known, place_of_key, put_field, put_value, no_values, field_step, each_field, filled, completed, named}

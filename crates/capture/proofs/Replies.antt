@@ -1,7 +1,7 @@
 -- What a reply says of a stream.
 use Rattle.std.proofs.Common.{◌≡◌, ℕ, List, [], ◌∷◌, ◌++◌, length, Option, Some, None, option_map, slice_get, unwrap_or, refl, ap, sym, subst, arith, append-nil}
 use Rattle.std.specs.Option.{IfSome, IsSomeAnd}
-use Rattle.data_core.specs.Outside.{with_front, with_more, IsAtEnd}
+use Rattle.byte_streams.specs.Outside.{with_front, with_more, IsAtEnd}
 use Rattle.data_core.specs.Outcome.{Outcome, given, refused}
 use Rattle.shape.specs.Shape.{Data}
 use Rattle.capture.specs.Document.{Document}

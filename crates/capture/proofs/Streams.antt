@@ -1,7 +1,7 @@
 -- Streams that are read and written in pieces.
 use Rattle.std.proofs.Common.{◌≡◌, ◌∙◌, ℕ, ◌+◌, ◌-◌, List, [], ◌++◌, length, take, drop, Option, Some, None, refl, ap, sym, append_assoc, append-nil, length-drop}
 use Rattle.std.proofs.Math.Seq.{take-add, take-length}
-use Rattle.data_core.specs.Outside.{with_front, with_more}
+use Rattle.byte_streams.specs.Outside.{with_front, with_more}
 
 pub with_front-nothing : (left : Option (List ℕ)) → with_front [] left ≡ left
 with_front-nothing None = refl

@@ -12,7 +12,7 @@ use Rattle.data_core.specs.Only.{only}
 use Rattle.data_core.specs.Node.{Node, Nodes, no_nodes, node, Pairs, no_pairs, pair, own_kind}
 use Rattle.data_core.specs.Node as node
 use Rattle.data_core.specs.Outcome.{Outcome, given, refused, under, bare, and_then}
-use Rattle.data_core.specs.Pairs.{put}
+use Rattle.sorted_pairs.specs.Pairs.{put}
 use Rattle.data_core.specs.Table.{entry_segment}
 use Rattle.data_core.specs.Choice.{variant_segment}
 use Rattle.shape.specs.Shape.{Shape, boolean, u8, u16, u32, u64, i8, i16, i32, i64, character, text, bytes, unit, unit_struct, option, seq, tuple, tuple_struct, prefix, prefix_struct, map, newtype, struct, strict, loose, enum, Shapes, no_shapes, shape, Payloads, no_payloads, payload, PayloadShape, unit_variant, newtype_variant, tuple_variant, struct_variant, strict_variant, loose_variant, Data, boolean_data, unsigned, signed, character_data, text_data, bytes_data, unit_data, nothing, something, newtype_data, map_data, parts_of, pairs_of, PayloadData, unit_payload, newtype_payload, tuple_payload, struct_payload}

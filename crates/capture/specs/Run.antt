@@ -1,6 +1,6 @@
 -- What a command does.
 use Rattle.std.specs.Prelude.{ℕ, ◌≡◌, ◌<◌, ◌≤◌, List, [], ◌∷◌, length, take, Option, Some, None, codes}
-use Rattle.data_core.specs.Outside.{with_front, with_more}
+use Rattle.byte_streams.specs.Outside.{with_front, with_more}
 use Rattle.data_core.specs.Outcome.{Outcome}
 use Rattle.shape.specs.Shape.{Data}
 use Rattle.capture.specs.Document.{Document}

@@ -7,7 +7,7 @@ use Rattle.data_core.specs.Only.{only}
 use Rattle.data_core.specs.Node.{Node, nodes_of, pairs_of}
 use Rattle.data_core.specs.Node as node
 use Rattle.data_core.specs.Order.{node_order}
-use Rattle.data_core.specs.Pairs.{put_all}
+use Rattle.sorted_pairs.specs.Pairs.{put_all}
 use Rattle.shape.specs.Shape.{Shape, Shapes, shapes_of, PayloadShape, Payloads, payloads_of}
 use Rattle.shape.specs.Upgraded.{upgraded}
 use Rattle.shape.specs.First.{within}

@@ -1,6 +1,6 @@
 //! The command line.
 ghost use Rattle.std.specs.Prelude.{◌≡◌, ◌≢◌, ◌<◌, ◌≤◌, ◌↔◌, None, IfSome, IsSomeAnd, IsTrue, length};
-ghost use Rattle.data_core.specs.Outside.{IsAtEnd, HasFailed};
+ghost use Rattle.byte_streams.specs.Outside.{IsAtEnd, HasFailed};
 ghost use Rattle.capture.specs.Document.{document};
 ghost use Rattle.capture.specs.Line.{line};
 ghost use Rattle.capture.specs.Status.{OnAnswer, OnWholeStream, OnSilence};
@@ -9,13 +9,14 @@ ghost use Rattle.capture.specs.Run.{IsCommand, most_bytes, TookMore, TookAtMost,
 use crate::answer::respond;
 use crate::status::Status;
 use crate::stream::{StreamError, read_stream, write_line};
-use data_core::{Failed, Names, Out, Source};
+use byte_streams::{Failed, ByteSink, ByteSource};
+use data_core::Names;
 use std::alloc::Global;
 
 /// Runs a command: `words` are the arguments behind the program's name. `read` reads a document
 /// from the source and writes the line of its answer to the sink. Want of memory may stand in the
 /// place of every status but `Usage`.
-pub fn run<S: Source, O: Out>(alloc: Global, words: &Names, source: &mut S, out: &mut O) -> Status
+pub fn run<S: ByteSource, O: ByteSink>(alloc: Global, words: &Names, source: &mut S, out: &mut O) -> Status
     // The words are settled first, and nothing else happens where they are no command line.
     ensures usage { (result ≡ Status.Usage) ↔ ¬ IsCommand words.now }
     ensures untouched { result ≡ Status.Usage → (source.new ≡ source.old) × (out.new ≡ out.old) }
@@ -73,7 +74,7 @@ fn is_read(words: &Names) -> bool
 }
 
 // Replies to a whole stream.
-fn reply<O: Out>(alloc: Global, bytes: &[u8], out: &mut O) -> Status
+fn reply<O: ByteSink>(alloc: Global, bytes: &[u8], out: &mut O) -> Status
     ensures kind { IsReply result }
     ensures bad_document { result ≡ Status.BadDocument → document bytes.now ≡ None }
     ensures answer { OnAnswer result (IsSomeAnd (document bytes.now)

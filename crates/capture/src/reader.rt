@@ -6,7 +6,7 @@ ghost use Rattle.shape.specs.First.{first as first_source};
 ghost use Rattle.shape.specs.OfShape.{IsOf};
 ghost use Rattle.shape.specs.View.{shape_view, data_view};
 ghost use Rattle.serde_value.specs.View.{node_view};
-ghost use Rattle.serde_value.specs.ErrorView.{fault_of};
+ghost use Rattle.value_error.specs.ErrorView.{fault_of};
 ghost use Rattle.capture.specs.Input.{input_view};
 ghost use Rattle.capture.specs.First.{first};
 ghost use Rattle.capture.specs.FirstTree.{first_tree};

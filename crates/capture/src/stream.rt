@@ -1,9 +1,9 @@
 //! Whole streams: from a source, and into a sink.
 ghost use Rattle.std.specs.Prelude.{◌≡◌, ◌≢◌, ◌<◌, ◌≤◌, [], Err, IsErrOf, OnOk, OnErr, vec_len};
-ghost use Rattle.data_core.specs.Outside.{with_front, with_more, IsAtEnd, HasFailed, Counts};
+ghost use Rattle.byte_streams.specs.Outside.{with_front, with_more, IsAtEnd, HasFailed, Counts};
 ghost use Rattle.capture.specs.Run.{most_bytes, TookFront};
 
-use data_core::{Failed, Out, Source};
+use byte_streams::{Failed, ByteSink, ByteSource};
 
 /// The most bytes that a stream may have.
 const MOST_BYTES: usize = 16_777_216;
@@ -20,7 +20,7 @@ pub enum StreamError {
 }
 
 /// Reads a stream to its end, to its first failure, or until it is too long.
-pub fn read_stream<S: Source>(source: &mut S, bytes: &mut Vec<u8>) -> Result<(), StreamError>
+pub fn read_stream<S: ByteSource>(source: &mut S, bytes: &mut Vec<u8>) -> Result<(), StreamError>
     requires { bytes.old.items ≡ [] }
     ensures taken { result ≢ Err StreamError.Memory
         → S.left source.old ≡ with_front bytes.new.items (S.left source.new) }
@@ -47,7 +47,7 @@ pub fn read_stream<S: Source>(source: &mut S, bytes: &mut Vec<u8>) -> Result<(),
 }
 
 /// Writes a line whole, up to the first failure.
-pub fn write_line<O: Out>(out: &mut O, line: &[u8]) -> Result<(), Failed>
+pub fn write_line<O: ByteSink>(out: &mut O, line: &[u8]) -> Result<(), Failed>
     ensures ok { OnOk result (O.taken out.new ≡ with_more (O.taken out.old) line.now) }
     ensures front { OnErr result (TookFront line.now (O.taken out.old) (O.taken out.new)) }
     ensures counts { Counts result (O.faults out.old) (O.faults out.new) }

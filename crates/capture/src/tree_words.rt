@@ -4,7 +4,7 @@ ghost use Rattle.serde_json.specs.View.{view, items_view};
 ghost use Rattle.data_core.specs.Node as node;
 ghost use Rattle.data_core.specs.Node.{nodes_of, pairs_of};
 ghost use Rattle.data_core.specs.Order.{node_order};
-ghost use Rattle.data_core.specs.Pairs.{put_all};
+ghost use Rattle.sorted_pairs.specs.Pairs.{put_all};
 ghost use Rattle.serde_value.specs.View.{node_view, pair_view};
 ghost use Rattle.capture.specs.Words.{word_tree as tree_named, tagged_tree as tree_under, tree_of, trees_in, trees_of, entries_in, entries_of, entry_in};
 

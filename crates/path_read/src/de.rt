@@ -69,14 +69,14 @@ fn track_inside<D: data_core::Deserializer>(
 fn leave<E: DeError>(
     alloc: Global,
     segment: Segment,
-    held: bool,
+    before: bool,
     failed: bool,
     track: &mut Track,
 ) -> Result<(), E>
-    ensures path { Leaves E.fault true segment held failed track.old track.new result }
+    ensures path { Leaves E.fault true segment before failed track.old track.new result }
     ensures lost { OnOk result (track.new ≢ marked) }
 {
-    if !held {
+    if !before {
         if failed {
             track.note(Some(Path::new(alloc)));
         }
@@ -130,12 +130,12 @@ impl<D: data_core::Deserializer> data_core::Deserializer for Deserializer<D> {
 
     fn leave_element(
         seq: &mut TrackedSeq<D>,
-        held: bool,
+        before: bool,
         failed: bool,
         track: &mut Track,
     ) -> Result<(), D::Error> {
         let index = D::elements_taken(&seq.inner).saturating_sub(1);
-        leave(seq.alloc, Segment::Seq { index }, held, failed, track)
+        leave(seq.alloc, Segment::Seq { index }, before, failed, track)
     }
 
     fn elements_taken(seq: &TrackedSeq<D>) -> usize {
@@ -178,11 +178,11 @@ impl<D: data_core::Deserializer> data_core::Deserializer for Deserializer<D> {
 
     fn leave_key(
         map: &mut TrackedMap<D>,
-        held: bool,
+        before: bool,
         failed: bool,
         track: &mut Track,
     ) -> Result<(), D::Error> {
-        if !held {
+        if !before {
             track.drop_path();
         }
         // Of a key that was read the text stays, for its value.
@@ -191,7 +191,7 @@ impl<D: data_core::Deserializer> data_core::Deserializer for Deserializer<D> {
         } else {
             Segment::Unknown
         };
-        leave(map.alloc, segment, held, failed, track)
+        leave(map.alloc, segment, before, failed, track)
     }
 
     fn next_value(map: &mut TrackedMap<D>) -> Result<Deserializer<D>, D::Error> {
@@ -202,12 +202,12 @@ impl<D: data_core::Deserializer> data_core::Deserializer for Deserializer<D> {
 
     fn leave_value(
         map: &mut TrackedMap<D>,
-        held: bool,
+        before: bool,
         failed: bool,
         track: &mut Track,
     ) -> Result<(), D::Error> {
         let segment = segment_of(map.key.take());
-        leave(map.alloc, segment, held, failed, track)
+        leave(map.alloc, segment, before, failed, track)
     }
 
     fn entries_left(map: &TrackedMap<D>) -> Option<usize> {
@@ -236,11 +236,11 @@ impl<D: data_core::Deserializer> data_core::Deserializer for Deserializer<D> {
 
     fn leave_name(
         variant: &mut TrackedVariant<D>,
-        held: bool,
+        before: bool,
         failed: bool,
         track: &mut Track,
     ) -> Result<(), D::Error> {
-        leave_name(variant.alloc, held, failed, track)
+        leave_name(variant.alloc, before, failed, track)
     }
 
     fn unit_variant(alloc: Global, variant: &mut TrackedVariant<D>) -> Result<(), D::Error> {
@@ -285,11 +285,11 @@ impl<D: data_core::Deserializer> data_core::Deserializer for Deserializer<D> {
 
     fn leave_payload(
         variant: &mut TrackedVariant<D>,
-        held: bool,
+        before: bool,
         failed: bool,
         track: &mut Track,
     ) -> Result<(), D::Error> {
         let segment = payload_segment(variant.name.take());
-        leave(variant.alloc, segment, held, failed, track)
+        leave(variant.alloc, segment, before, failed, track)
     }
 }

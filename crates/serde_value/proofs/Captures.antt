@@ -10,7 +10,7 @@ use Rattle.data_core.specs.Table.{IsKey, IsValue, IsCaught, entry_segment, segme
 use Rattle.data_core.specs.Node.{Node}
 use Rattle.data_core.specs.Order.{node_order}
 use Rattle.data_core.specs.Outcome.{Outcome, given, refused}
-use Rattle.data_core.specs.Pairs.{put_all, put}
+use Rattle.sorted_pairs.specs.Pairs.{put_all, put}
 use Rattle.data_std.proofs.Elements.{after}
 use Rattle.serde_value.specs.Captured.{Captures, CapturesAll, CapturesPairs, NextPair, seen, depth_of_all, depth_of_entries, depth_of_waiting}
 use Rattle.serde_value.specs.View.{node_view, pair_view}

@@ -4,8 +4,8 @@ use Rattle.std.specs.List.{insert}
 use Rattle.std.specs.Ordering.{on}
 use Rattle.data_core.specs.Order.{node_order}
 use Rattle.data_core.specs.OrderLaws.{node_order_total}
-use Rattle.data_core.specs.Pairs.{Rises, lookup, put, below, up_to}
-use Rattle.data_core.proofs.Edits as generic
+use Rattle.sorted_pairs.specs.Pairs.{Rises, lookup, put, below, up_to}
+use Rattle.sorted_pairs.proofs.Edits as generic
 use Rattle.serde_value.specs.View.{node_view, pair_view}
 use Rattle.serde_value.specs.declared.value.Value.{Value}
 

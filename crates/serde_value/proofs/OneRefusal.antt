@@ -10,8 +10,8 @@ use Rattle.data_core.specs.Table.{segment_of_key}
 use Rattle.data_core.specs.Node.{some, newtype, seq, nodes_of}
 use Rattle.data_core.specs.Order.{node_order}
 use Rattle.data_core.specs.Outcome.{Outcome, given, refused, IsUnder}
-use Rattle.data_core.specs.Pairs.{put_all}
-use Rattle.data_std.specs.Reads.{AtKey, AndThen}
+use Rattle.sorted_pairs.specs.Pairs.{put_all}
+use Rattle.data_core.specs.Reads.{AtKey, AndThen}
 use Rattle.serde_value.specs.View.{map_node}
 use Rattle.serde_value.specs.Captured.{Captures, CapturesOffer, CapturesScalar, CapturesAll, CapturesPairs, pair_before}
 

@@ -3,9 +3,9 @@ use Rattle.std.proofs.Common.{Option, None, Some, Result, Ok, Err, Bool}
 use Rattle.data_core.specs.declared.fault.Fault.{Fault}
 use Rattle.data_core.specs.Tracking.{Refusal}
 use Rattle.data_core.specs.Outcome.{Outcome, Among, RefusedAmong}
-use Rattle.serde_value.specs.ErrorView.{fault_of}
+use Rattle.value_error.specs.ErrorView.{fault_of}
 use Rattle.serde_value.specs.Reading.{FaultAmong, ReadsAmong}
-use Rattle.serde_value.specs.declared.error.DeserializerError.{DeserializerError}
+use Rattle.value_error.specs.declared.error.DeserializerError.{DeserializerError}
 
 fault_among : {A : Type 0} (tracks : Bool) (f : Option Fault) (is_outcome : Outcome A → Type 0) (old new : Refusal) → RefusedAmong tracks f is_outcome old new → FaultAmong f is_outcome
 fault_among tracks None is_outcome old new h = tt

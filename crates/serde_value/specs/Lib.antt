@@ -1,9 +1,7 @@
 pub mod View
 pub mod Sizes
 pub mod Deserializer
-pub mod Unexpected
-pub mod ErrorView
-pub mod Report
 pub mod Fed
 pub mod Reading
 pub mod Captured
+pub mod Seen

@@ -3,8 +3,8 @@ use Rattle.std.specs.Prelude.{List, Option, None, Some, Result, Ok, Err}
 use Rattle.data_core.specs.declared.fault.Fault.{Fault}
 use Rattle.data_core.specs.declared.path.Segment.{Segment}
 use Rattle.data_core.specs.Outcome.{Outcome, given, refused}
-use Rattle.serde_value.specs.ErrorView.{fault_of}
-use Rattle.serde_value.specs.declared.error.DeserializerError.{DeserializerError}
+use Rattle.value_error.specs.ErrorView.{fault_of}
+use Rattle.value_error.specs.declared.error.DeserializerError.{DeserializerError}
 
 -- a fault is that of one of these outcomes, wherever in the tree it came; want of memory says nothing of it
 abbrev pub FaultAmong : {A : Type 0} → Option Fault → (Outcome A → Type 0) → Type 0

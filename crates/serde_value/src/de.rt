@@ -154,7 +154,7 @@ impl<E: DeError> Deserializer for ValueDeserializer<E> {
 
     fn leave_element(
         _seq: &mut ValueElements<E>,
-        _held: bool,
+        _before: bool,
         _failed: bool,
         _track: &mut Track,
     ) -> Result<(), E> {
@@ -211,7 +211,7 @@ impl<E: DeError> Deserializer for ValueDeserializer<E> {
 
     fn leave_key(
         _map: &mut ValueEntries<E>,
-        _held: bool,
+        _before: bool,
         _failed: bool,
         _track: &mut Track,
     ) -> Result<(), E> {
@@ -232,7 +232,7 @@ impl<E: DeError> Deserializer for ValueDeserializer<E> {
 
     fn leave_value(
         _map: &mut ValueEntries<E>,
-        _held: bool,
+        _before: bool,
         _failed: bool,
         _track: &mut Track,
     ) -> Result<(), E> {
@@ -270,7 +270,7 @@ impl<E: DeError> Deserializer for ValueDeserializer<E> {
 
     fn leave_name(
         _variant: &mut ValueVariant<E>,
-        _held: bool,
+        _before: bool,
         _failed: bool,
         _track: &mut Track,
     ) -> Result<(), E> {
@@ -321,7 +321,7 @@ impl<E: DeError> Deserializer for ValueDeserializer<E> {
 
     fn leave_payload(
         _variant: &mut ValueVariant<E>,
-        _held: bool,
+        _before: bool,
         _failed: bool,
         _track: &mut Track,
     ) -> Result<(), E> {

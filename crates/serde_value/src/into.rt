@@ -3,7 +3,7 @@
 use crate::de::ValueDeserializer;
 use crate::value::Value;
 use data_core::DeError;
-use data_std::IntoDeserializer;
+use data_items::IntoDeserializer;
 use std::alloc::Global;
 
 impl<E: DeError> IntoDeserializer<E> for Value {

@@ -3,7 +3,6 @@
 
 mod copy;
 mod de;
-mod error;
 mod hash;
 mod held;
 mod into;
@@ -12,18 +11,17 @@ mod map;
 mod map_iter;
 mod order;
 mod reading;
+mod seen;
 mod show;
 mod traits;
-mod unexpected;
 mod value;
 mod variant;
 mod visitor;
 
 pub use de::{ValueDeserializer, ValueElements, ValueEntries};
-pub use error::DeserializerError;
 pub use map::Unplaced;
 pub use map_iter::ValueMapIter;
-pub use unexpected::Unexpected;
 pub use value::{Held, Items, Value, ValueMap};
+pub use value_error::{DeserializerError, Unexpected};
 pub use variant::ValueVariant;
 pub use visitor::ValueVisitor;

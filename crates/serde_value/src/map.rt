@@ -1,12 +1,12 @@
 //! Pairs of trees by rising key.
 ghost use Rattle.std.specs.Prelude.{◌≡◌, ◌↔◌, ◌+◌, ◌-◌, ◌*◌, ◌^◌, ◌≤◌, IsTrue, None, IfOk, IfErr, OnOk, OnErr, [], length, map, option_map};
 ghost use Rattle.data_core.specs.Order.{node_order};
-ghost use Rattle.data_core.specs.Pairs.{Rises, lookup, put};
+ghost use Rattle.sorted_pairs.specs.Pairs.{Rises, lookup, put};
 ghost use Rattle.serde_value.specs.View.{node_view, pair_view};
 
 use crate::map_iter::ValueMapIter;
 use crate::value::{Value, ValueMap};
-use data_core::{Steps, place};
+use sorted_pairs::{Steps, place};
 use std::alloc::Global;
 use std::marker::Brand;
 use std::mem;

@@ -5,11 +5,11 @@ ghost use Rattle.serde_value.specs.Reading.{ReadsAmong};
 ghost use Rattle.serde_value.specs.View.{node_view};
 
 use crate::de::ValueDeserializer;
-use crate::error::DeserializerError;
 use crate::value::Value;
 use data_core::Track;
 use data_std::Deserialize;
 use std::alloc::Global;
+use value_error::DeserializerError;
 
 impl Value {
     /// Reads a value of a type from the tree: serde_value's `Value::deserialize_into`. No path is kept

@@ -103,7 +103,7 @@ impl Model for ValueMap {
 
     ghost use Rattle.data_core.specs.Depth.{depth_of_pairs};
     ghost use Rattle.data_core.specs.Order.{node_order};
-    ghost use Rattle.data_core.specs.Pairs.{Rises};
+    ghost use Rattle.sorted_pairs.specs.Pairs.{Rises};
     ghost use Rattle.serde_value.specs.View.{pair_view};
 
     ghost view = { λ m. map pair_view m.pairs.items };

@@ -3,11 +3,11 @@ ghost use Rattle.std.specs.Prelude.{◌≡◌, ◌++◌, ◌∷◌, [], true, If
 ghost use Rattle.data_core.specs.Ask.{any};
 ghost use Rattle.data_core.specs.Source.{offer_of};
 ghost use Rattle.data_core.specs.Sequence.{rest_of, place_after, IsNext};
-ghost use Rattle.data_core.specs.Table.{IsKey, IsValue, IsCaught, Catches, text_of, rest_of_entries, value_of, entry_segment, with_caught};
+ghost use Rattle.data_core.specs.Table.{IsKey, IsValue, IsCaught, Catches, key_text, rest_of_entries, value_of, entry_segment, with_caught};
 ghost use Rattle.data_core.specs.Show.{shown_offer, scalar_view, Begins};
 ghost use Rattle.data_core.specs.Order.{node_order};
 ghost use Rattle.data_core.specs.Outcome.{Among};
-ghost use Rattle.data_core.specs.Pairs.{put};
+ghost use Rattle.sorted_pairs.specs.Pairs.{put};
 ghost use Rattle.data_core.specs.Tracking.{Refusal};
 ghost use Rattle.data_core.specs.declared.path.Segment.{Segment};
 ghost use Rattle.serde_value.specs.Captured.{Captures, CapturesOffer, CapturesScalar, CapturesAll, CapturesTable, NextPair, seen};
@@ -179,9 +179,9 @@ fn take_element<D: Deserializer>(
     let Some(element) = D::next_element(seq)? else {
         return Ok(None);
     };
-    let held = track.holds();
+    let before = track.holds();
     let value = take(alloc, element, track);
-    D::leave_element(seq, held, value.is_err(), track)?;
+    D::leave_element(seq, before, value.is_err(), track)?;
     Ok(Some(value?))
 }
 
@@ -269,9 +269,9 @@ fn take_key<D: Deserializer>(
     let Some(key) = D::next_key(map)? else {
         return Ok(None);
     };
-    let held = track.holds();
+    let before = track.holds();
     let value = visit_key(alloc, map, key, track);
-    D::leave_key(map, held, value.is_err(), track)?;
+    D::leave_key(map, before, value.is_err(), track)?;
     Ok(Some(value?))
 }
 
@@ -285,7 +285,7 @@ fn visit_key<D: Deserializer>(
 ) -> Result<Value, D::Error>
     ensures reads { Among D.Error.fault D.tracks result (λ o. Captures (D.source key) (seen node_view o)) track.old track.new }
     ensures caught { D.tracks ≡ true → Catches D.Error.fault result (D.table map.new).caught
-        (text_of (offer_of (D.source key) any)) }
+        (key_text (offer_of (D.source key) any)) }
     ensures table { D.table map.new ≡ with_caught (D.table map.new).caught (D.table map.old) }
 {
     let shown = D::show_key(map, key, Hint::Any)?;
@@ -306,8 +306,8 @@ fn take_value<D: Deserializer>(
     ensures left { OnOk result ((D.table map.new).left ≡ (D.table map.old).left) }
 {
     let value = D::next_value(map)?;
-    let held = track.holds();
+    let before = track.holds();
     let value = take(alloc, value, track);
-    D::leave_value(map, held, value.is_err(), track)?;
+    D::leave_value(map, before, value.is_err(), track)?;
     value
 }

@@ -2,8 +2,8 @@
 use Rattle.std.proofs.Common.{◌≡◌, ℕ, ◌+◌, ◌<◌, List, length, get_or, set, map, Some, None}
 use Rattle.std.specs.List.{insert}
 use Rattle.std.specs.Ordering.{on}
-use Rattle.data_core.specs.Pairs.{Rises, lookup, put, below, up_to}
-use Rattle.data_core.proofs.Edits as generic
+use Rattle.sorted_pairs.specs.Pairs.{Rises, lookup, put, below, up_to}
+use Rattle.sorted_pairs.proofs.Edits as generic
 use Rattle.shape.specs.DataOrder.{data_order}
 use Rattle.shape.specs.DataOrderLaws.{data_order_total}
 use Rattle.shape.specs.View.{data_view, pair_view}

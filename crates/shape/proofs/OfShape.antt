@@ -13,7 +13,7 @@ use Rattle.data_core.specs.declared.path.Segment.{Segment}
 use Rattle.data_core.specs.declared.path.Segment.TheVariants.{Seq}
 use Rattle.data_core.specs.Ask.{Ask, identifier}
 use Rattle.data_core.specs.Only.{only}
-use Rattle.data_core.specs.Pairs.{put}
+use Rattle.sorted_pairs.specs.Pairs.{put}
 use Rattle.data_core.specs.Table.{segment_of_key}
 use Rattle.data_core.specs.Choice.{segment_of_variant}
 use Rattle.data_core.specs.Wanted.{Wanted}

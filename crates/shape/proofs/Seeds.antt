@@ -6,7 +6,7 @@ use Rattle.data_core.specs.Outcome.{Outcome, given, refused, IsRefused, RefusedA
 use Rattle.shape.specs.Shape as spec
 use Rattle.shape.specs.declared.data.Data.{Data}
 use Rattle.shape.specs.View.{data_view}
-use Rattle.data_std.specs.Reads.{IsOutcome}
+use Rattle.data_core.specs.Reads.{IsOutcome}
 
 refused_among : (tracks : Bool) (fault : Option Fault) (o : Outcome spec.Data) (old new : Refusal) → IsRefused tracks fault o old new → RefusedAmong tracks fault (IsOutcome data_view o) old new
 refused_among tracks None o old new h = tt

@@ -17,7 +17,7 @@ use Rattle.data_core.specs.Table.{segment_of_key}
 use Rattle.data_core.specs.Wanted.{Wanted}
 use Rattle.data_core.specs.Wanted as wanted
 use Rattle.data_core.specs.Choice.{segment_of_variant}
-use Rattle.data_core.specs.Pairs.{put}
+use Rattle.sorted_pairs.specs.Pairs.{put}
 use Rattle.data_std.specs.Ignored.{ignored_rest, at_key}
 use Rattle.shape.specs.DataOrder.{data_order}
 use Rattle.shape.specs.Fields.{Field, fields_of, named}

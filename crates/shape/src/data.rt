@@ -125,7 +125,7 @@ impl Model for DataMap {
 
     ghost view = { λ m. map pair_view m.pairs.items };
 
-    ghost use Rattle.data_core.specs.Pairs.{Rises};
+    ghost use Rattle.sorted_pairs.specs.Pairs.{Rises};
     ghost use Rattle.shape.specs.DataOrder.{data_order};
 
     ghost invariant = { λ m. Rises data_order (map pair_view m.pairs.items) };

@@ -1,7 +1,7 @@
 //! Readers of maps.
 ghost use Rattle.std.specs.Prelude.{◌≡◌, true, [], Some, OnOk, IsSome};
 ghost use Rattle.data_core.specs.Source.{Source, offer_of};
-ghost use Rattle.data_core.specs.Table.{Catches, text_of, with_caught, entry_segment, segment_of_key};
+ghost use Rattle.data_core.specs.Table.{Catches, key_text, with_caught, entry_segment, segment_of_key};
 ghost use Rattle.data_core.specs.declared.path.Segment.{Segment};
 ghost use Rattle.data_core.specs.Show.{shown_offer};
 ghost use Rattle.data_core.specs.Outcome.{under, Gives};
@@ -95,12 +95,12 @@ fn read_key<D: Deserializer>(
     ensures value { Gives D.Error.fault D.tracks data_view result
         (at_key (segment_of_key (asks (shape_view shape.now)) (D.source key)) (first (shape_view shape.now) (D.source key)))
         track.old track.new }
-    ensures caught { D.tracks ≡ true → OnOk result ((D.table map.new).caught ≡ text_of (offer_of (D.source key) (asks (shape_view shape.now)))) }
+    ensures caught { D.tracks ≡ true → OnOk result ((D.table map.new).caught ≡ key_text (offer_of (D.source key) (asks (shape_view shape.now)))) }
     ensures table { OnOk result (D.table map.new ≡ with_caught (D.table map.new).caught (D.table map.old)) }
 {
-    let held = track.holds();
+    let before = track.holds();
     let read = visit_key(alloc, shape, map, key, track);
-    D::leave_key(map, held, read.is_err(), track)?;
+    D::leave_key(map, before, read.is_err(), track)?;
     read
 }
 
@@ -116,7 +116,7 @@ fn visit_key<D: Deserializer>(
 ) -> Result<Data, D::Error>
     ensures value { Gives D.Error.fault D.tracks data_view result (first (shape_view shape.now) (D.source key)) track.old track.new }
     ensures caught { D.tracks ≡ true → Catches D.Error.fault result (D.table map.new).caught
-        (text_of (offer_of (D.source key) (asks (shape_view shape.now)))) }
+        (key_text (offer_of (D.source key) (asks (shape_view shape.now)))) }
     ensures table { D.table map.new ≡ with_caught (D.table map.new).caught (D.table map.old) }
 {
     let shown = D::show_key(map, key, hint(shape))?;
@@ -138,8 +138,8 @@ pub fn read_value<D: Deserializer>(
     ensures left { OnOk result ((D.table map.new).left ≡ (D.table map.old).left) }
 {
     let value = D::next_value(map)?;
-    let held = track.holds();
+    let before = track.holds();
     let read = read(alloc, shape, value, track);
-    D::leave_value(map, held, read.is_err(), track)?;
+    D::leave_value(map, before, read.is_err(), track)?;
     read
 }

@@ -4,7 +4,7 @@ ghost use Rattle.data_core.specs.Ask.{identifier};
 ghost use Rattle.data_core.specs.Wanted as wanted;
 ghost use Rattle.data_core.specs.Source.{offer_of};
 ghost use Rattle.data_core.specs.Source as offer;
-ghost use Rattle.data_core.specs.Table.{Catches, text_of};
+ghost use Rattle.data_core.specs.Table.{Catches, key_text};
 ghost use Rattle.data_core.specs.Choice.{name_caught, variant_segment};
 ghost use Rattle.data_core.specs.declared.path.Segment.{Segment};
 ghost use Rattle.data_core.specs.Show.{shown_offer};
@@ -71,14 +71,14 @@ fn read_name<D: Deserializer>(
     ensures value { Gives D.Error.fault D.tracks (λ place. place) result
         (bare (variant_place (variants_in variants.now) (offer_of (D.source name) identifier)))
         track.old track.new }
-    ensures caught { D.tracks ≡ true → OnOk result ((D.choice variant.new).caught ≡ text_of (offer_of (D.source name) identifier)) }
+    ensures caught { D.tracks ≡ true → OnOk result ((D.choice variant.new).caught ≡ key_text (offer_of (D.source name) identifier)) }
     ensures payload { OnOk result ((D.choice variant.new).payload ≡ (D.choice variant.old).payload) }
     ensures within { IfOk result (λ place. place < length (variants_in variants.now)) }
     ensures shaped { IfOk result (λ place. place < length variants.now.shapes.items) }
 {
-    let held = track.holds();
+    let before = track.holds();
     let place = visit_name(alloc, variants, variant, name);
-    D::leave_name(variant, held, place.is_err(), track)?;
+    D::leave_name(variant, before, place.is_err(), track)?;
     place
 }
 
@@ -92,7 +92,7 @@ fn visit_name<D: Deserializer>(
     ensures value { Answers D.Error.fault (λ place. place) result
         (variant_place (variants_in variants.now) (offer_of (D.source name) identifier)) }
     ensures caught { D.tracks ≡ true → Catches D.Error.fault result (D.choice variant.new).caught
-        (text_of (offer_of (D.source name) identifier)) }
+        (key_text (offer_of (D.source name) identifier)) }
     ensures choice { D.choice variant.new ≡ name_caught (D.choice variant.new).caught (D.choice variant.old) }
 {
     let shown = D::show_name(variant, name, Hint::Identifier)?;
@@ -146,9 +146,9 @@ fn read_payload<D: Deserializer>(
         (under segment (visited_payload (variant_shape_view shape.now) (D.choice variant.old).payload))
         track.old track.new }
 {
-    let held = track.holds();
+    let before = track.holds();
     let payload = take_payload::<D>(alloc, shape, variant, track);
-    D::leave_payload(variant, held, payload.is_err(), track)?;
+    D::leave_payload(variant, before, payload.is_err(), track)?;
     payload
 }
 

@@ -1,12 +1,12 @@
 //! What was read of entries, by rising key.
 ghost use Rattle.std.specs.Prelude.{◌≡◌, ◌↔◌, ◌+◌, ◌-◌, ◌*◌, ◌^◌, ◌≤◌, IsTrue, [], length, map, option_map, IfOk, IfErr, OnOk, OnErr, None};
-ghost use Rattle.data_core.specs.Pairs.{Rises, lookup, put};
+ghost use Rattle.sorted_pairs.specs.Pairs.{Rises, lookup, put};
 ghost use Rattle.shape.specs.DataOrder.{data_order};
 ghost use Rattle.shape.specs.View.{data_view, pair_view};
 
 use crate::data::{Data, DataMap};
 use crate::iter::DataMapIter;
-use data_core::{Steps, place};
+use sorted_pairs::{Steps, place};
 use std::alloc::Global;
 use std::marker::Brand;
 use std::mem;

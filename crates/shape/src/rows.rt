@@ -195,8 +195,8 @@ fn read_element<D: Deserializer>(
     let Some(element) = D::next_element(seq)? else {
         return Ok(None);
     };
-    let held = track.holds();
+    let before = track.holds();
     let value = read(alloc, shape, element, track);
-    D::leave_element(seq, held, value.is_err(), track)?;
+    D::leave_element(seq, before, value.is_err(), track)?;
     Ok(Some(value?))
 }

@@ -9,9 +9,7 @@ ghost use Rattle.shape.specs.Integer.{ShowsInteger};
 ghost use Rattle.shape.specs.View.{data_view};
 
 use crate::data::Data;
-use data_core::{
-    BytesLike, DeError, Deserializer, Scalar, Shown, Text, TextLike, Unexpected, only_char, refused,
-};
+use data_core::{BytesLike, DeError, Deserializer, Scalar, Shown, Text, TextLike, Unexpected, only_char, refused};
 use std::alloc::Global;
 
 /// Takes a boolean. A refusal names `bool` as what was expected.

@@ -2,7 +2,7 @@
 ghost use Rattle.std.specs.Prelude.{◌≡◌};
 ghost use Rattle.shape.specs.First.{asks, visited};
 ghost use Rattle.shape.specs.View.{shape_view, data_view};
-ghost use Rattle.data_std.specs.Reads.{IsOutcome};
+ghost use Rattle.data_core.specs.Reads.{IsOutcome};
 ghost use Rattle.shape.specs.Refusals.{visited_refused};
 
 use crate::data::Data;

@@ -2,7 +2,7 @@
 ghost use Rattle.std.specs.Prelude.{◌≡◌, ◌<◌, true, Some, None, OnOk, IfOk, IfSome, IsSome, length, replicate, slice_get};
 ghost use Rattle.data_core.specs.Ask.{identifier};
 ghost use Rattle.data_core.specs.Source.{Source, offer_of};
-ghost use Rattle.data_core.specs.Table.{Catches, text_of, with_caught, entry_segment, segment_of_key};
+ghost use Rattle.data_core.specs.Table.{Catches, key_text, with_caught, entry_segment, segment_of_key};
 ghost use Rattle.data_core.specs.declared.path.Segment.{Segment};
 ghost use Rattle.data_core.specs.Fault.{IsCalled};
 ghost use Rattle.data_core.specs.declared.fault.Fault.TheVariants.{DuplicateField};
@@ -165,15 +165,15 @@ fn read_place<D: Deserializer>(
     ensures value { Gives D.Error.fault D.tracks (λ place. place) result
         (at_key (segment_of_key identifier (D.source key)) (place_of_key strict (fields_in fields.now) (offer_of (D.source key) identifier)))
         track.old track.new }
-    ensures caught { D.tracks ≡ true → OnOk result ((D.table map.new).caught ≡ text_of (offer_of (D.source key) identifier)) }
+    ensures caught { D.tracks ≡ true → OnOk result ((D.table map.new).caught ≡ key_text (offer_of (D.source key) identifier)) }
     ensures table { OnOk result (D.table map.new ≡ with_caught (D.table map.new).caught (D.table map.old)) }
     ensures within { IfOk result (λ place. IfSome place (λ i. i < length (fields_in fields.now))) }
     ensures named { IfOk result (λ place. IfSome place (λ i. i < length fields.now.names)) }
     ensures shaped { IfOk result (λ place. IfSome place (λ i. i < length fields.now.shapes.items)) }
 {
-    let held = track.holds();
+    let before = track.holds();
     let place = visit_key(alloc, fields, strict, map, key);
-    D::leave_key(map, held, place.is_err(), track)?;
+    D::leave_key(map, before, place.is_err(), track)?;
     place
 }
 
@@ -187,7 +187,7 @@ fn visit_key<D: Deserializer>(
 ) -> Result<Option<usize>, D::Error>
     ensures value { Answers D.Error.fault (λ place. place) result (place_of_key strict (fields_in fields.now) (offer_of (D.source key) identifier)) }
     ensures caught { D.tracks ≡ true → Catches D.Error.fault result (D.table map.new).caught
-        (text_of (offer_of (D.source key) identifier)) }
+        (key_text (offer_of (D.source key) identifier)) }
     ensures table { D.table map.new ≡ with_caught (D.table map.new).caught (D.table map.old) }
 {
     let shown = D::show_key(map, key, Hint::Identifier)?;

@@ -2,10 +2,9 @@
 ghost use Rattle.data_core.specs.Ask as asks;
 ghost use Rattle.data_core.specs.Outcome.{Among};
 
-use data_core::{
-    DeError, DeserializeSeed, Deserializer, Fault, Hint, Kind, Names, Shown, Text, Track, refused,
-};
-use data_std::{Error, next_entry};
+use data_core::{DeError, DeserializeSeed, Deserializer, Fault, Hint, Kind, Names, Shown, Text, Track, refused};
+use data_items::Error;
+use data_std::next_entry;
 use serde_path_to_error::deserialize_seed;
 use serde_value::{Value, ValueDeserializer, ValueMap};
 use std::alloc::{AllocError, Global};

@@ -2,7 +2,8 @@
 ghost use Rattle.data_core.specs.Ask as asks;
 
 use data_core::{DeError, DeserializeSeed, Deserializer, Fault, Hint, Shown, Track, refused};
-use data_std::{Deserialize, Error};
+use data_items::Error;
+use data_std::Deserialize;
 use serde_path_to_error::deserialize;
 use serde_value::{Items, Value, ValueDeserializer};
 use std::alloc::{AllocError, Global};
@@ -39,9 +40,9 @@ impl DeserializeSeed for Lenient {
             let Some(element) = D::next_element(&mut seq)? else {
                 break;
             };
-            let held = track.holds();
+            let before = track.holds();
             let read = data_std::deserialize::<u8, D>(alloc, element, track);
-            D::leave_element(&mut seq, held, read.is_err(), track)?;
+            D::leave_element(&mut seq, before, read.is_err(), track)?;
         }
         if track.is_marked() {
             return Err(D::Error::memory());

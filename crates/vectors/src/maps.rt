@@ -3,7 +3,7 @@
 use crate::refusals::told;
 use capture::read_any;
 use data_core::{Deserializer, Fault, Hint, Kind, Shown};
-use data_std::{Error, MapDeserializer, MapEntries};
+use data_items::{Error, MapDeserializer, MapEntries};
 use serde_path_to_error::{deserialize, deserialize_seed};
 use serde_value::{Value, ValueDeserializer, ValueMap};
 use shape::{MapShape, Shape, ShapeSeed};

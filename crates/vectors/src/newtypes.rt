@@ -2,10 +2,9 @@
 ghost use Rattle.data_core.specs.Ask as asks;
 
 use capture::{Input, read};
-use data_core::{
-    DeError, DeserializeSeed, Deserializer, Fault, Hint, Kind, Names, Shown, Text, Track, refused,
-};
-use data_std::{Deserialize, Error, next_entry};
+use data_core::{DeError, DeserializeSeed, Deserializer, Fault, Hint, Kind, Names, Shown, Text, Track, refused};
+use data_items::Error;
+use data_std::{Deserialize, next_entry};
 use serde_path_to_error::{deserialize, deserialize_seed};
 use serde_value::{Value, ValueDeserializer, ValueMap};
 use shape::{Data, Shape};

@@ -1,7 +1,7 @@
 //! What is told of a refusal.
 
 use data_core::{DeError, Fault};
-use data_std::Error;
+use data_items::Error;
 use std::alloc::Global;
 use std::test::Fail;
 

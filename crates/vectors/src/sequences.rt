@@ -3,7 +3,7 @@
 use crate::refusals::told;
 use capture::{Input, ReadError, read, read_any};
 use data_core::{Deserializer, Fault, Kind, Segment};
-use data_std::{Error, SeqDeserializer, SeqElements};
+use data_items::{Error, SeqDeserializer, SeqElements};
 use serde_path_to_error::{deserialize, deserialize_seed};
 use serde_value::{Items, Value, ValueDeserializer};
 use shape::{Data, Shape, ShapeSeed};

@@ -3,7 +3,8 @@ ghost use Rattle.data_core.specs.Ask as asks;
 ghost use Rattle.data_core.specs.Outcome.{Among};
 
 use data_core::{DeError, DeserializeSeed, Deserializer, Fault, Hint, Kind, Shown, Track, refused};
-use data_std::{Deserialize, Error, IgnoredAny, next_entry, next_key};
+use data_items::Error;
+use data_std::{Deserialize, IgnoredAny, next_entry, next_key};
 use serde_path_to_error::deserialize;
 use serde_value::{Value, ValueDeserializer, ValueMap};
 use std::alloc::{AllocError, Global};

@@ -2,7 +2,8 @@
 //! those of the two tables in docs/SPECIFICATION.md, and their marks stand there.
 
 use capture::run;
-use data_core::{MemoryOut, Names, SteadySource, Text};
+use byte_streams::{MemoryOut, SteadySource};
+use data_core::{Names, Text};
 use std::alloc::{AllocError, Global};
 use std::test::Fail;
 

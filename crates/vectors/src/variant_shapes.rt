@@ -4,7 +4,7 @@ use crate::refusals::told;
 use crate::variants::{named, text};
 use capture::read_any;
 use data_core::{Fault, Kind, Text};
-use data_std::Error;
+use data_items::Error;
 use serde_value::{Value, ValueDeserializer};
 use shape::{Data, Payload, Shape, VariantShape, Variants};
 use std::alloc::Global;

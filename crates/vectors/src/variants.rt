@@ -3,11 +3,9 @@ ghost use Rattle.data_core.specs.Ask as asks;
 ghost use Rattle.data_core.specs.Outcome.{Among};
 
 use crate::refusals::told;
-use data_core::{
-    DeError, DeserializeSeed, Deserializer, Fault, Hint, Kind, Names, Shown, Text, Track, refused,
-    tuple_variant, unit_variant,
-};
-use data_std::{Error, newtype_variant, variant};
+use data_core::{DeError, DeserializeSeed, Deserializer, Fault, Hint, Kind, Names, Shown, Text, Track, refused, tuple_variant, unit_variant};
+use data_items::Error;
+use data_std::{newtype_variant, variant};
 use serde_path_to_error::deserialize_seed;
 use serde_value::{Items, Value, ValueDeserializer, ValueMap};
 use std::alloc::{AllocError, Global};

@@ -5,7 +5,7 @@ use Rattle.data_core.specs.declared.fault.Fault.TheVariants.{InvalidLength}
 use Rattle.data_core.specs.declared.path.Segment.TheVariants.{Seq}
 use Rattle.data_core.specs.Ask.{identifier}
 use Rattle.data_core.specs.Source.{offer_of}
-use Rattle.data_core.specs.Table.{text_of, entry_segment, segment_of_key}
+use Rattle.data_core.specs.Table.{key_text, entry_segment, segment_of_key}
 use Rattle.data_core.specs.Choice.{variant_segment, segment_of_variant}
 use Rattle.data_core.specs.Tracking.{left, left_key}
 use Rattle.data_core.specs.Outcome.{Outcome, under, bare, and_then, given}
@@ -95,8 +95,8 @@ rows::read_element-returns-in_err-value-clause-value g t c =
     let de = g.D.Deserializer in
     let i = (de.sequence c.args.seq.now).taken in
     let taken = rw c.in-Some.is at c.in_ok-element.ensures.takes in
-    let on_way_out : c.leave_element.new.track ≡ left de.tracks (Seq i) c.holds-held.result (is_err c.read-value.result) c.read-value.new.track = search rules in
-    let refusal = rw c.in_err-value.was at (Gives-left g.D.Error.DeError.fault de.tracks c.holds-held.result (Seq i) data_view c.read-value.result (first (shape_view c.args.shape.now) (de.source c.in-Some.element)) c.args.track.now c.read-value.new.track c.leave_element.new.track c.holds-held.ensures c.read-value.ensures on_way_out) in
+    let on_way_out : c.leave_element.new.track ≡ left de.tracks (Seq i) c.holds-before.result (is_err c.read-value.result) c.read-value.new.track = search rules in
+    let refusal = rw c.in_err-value.was at (Gives-left g.D.Error.DeError.fault de.tracks c.holds-before.result (Seq i) data_view c.read-value.result (first (shape_view c.args.shape.now) (de.source c.in-Some.element)) c.args.track.now c.read-value.new.track c.leave_element.new.track c.holds-before.ensures c.read-value.ensures on_way_out) in
     let element = under (Seq i) (first (shape_view c.args.shape.now) (de.source c.in-Some.element)) in
     rw (p.1, p.2, taken.0)
     (IsRefused-whole de.tracks (g.D.Error.DeError.fault c.in_err-value.field-0.0) element (and_then element (λ d. given (Some d))) c.args.track.now c.args.track.now c.leave_element.new.track (λ e. e) (Carries-and_then element (λ d. given (Some d))) refusal)
@@ -256,8 +256,8 @@ entries::read_key-returns-clause-value g t c =
     let de = g.D.Deserializer in
     let key = de.source c.args.key in
     let own = (de.table c.visit_key-read.new.map).caught in
-    let on_way_out : c.leave_key.new.track ≡ left_key de.tracks (entry_segment own) c.holds-held.result (is_err c.visit_key-read.result) c.visit_key-read.new.track = search rules in
-    Gives-left_key g.D.Error.DeError.fault de.tracks c.holds-held.result own (text_of (offer_of key (asks (shape_view c.args.shape.now)))) data_view c.visit_key-read.result (first (shape_view c.args.shape.now) key) c.args.track.now c.visit_key-read.new.track c.leave_key.new.track c.holds-held.ensures c.visit_key-read.ensures.caught c.visit_key-read.ensures.value on_way_out
+    let on_way_out : c.leave_key.new.track ≡ left_key de.tracks (entry_segment own) c.holds-before.result (is_err c.visit_key-read.result) c.visit_key-read.new.track = search rules in
+    Gives-left_key g.D.Error.DeError.fault de.tracks c.holds-before.result own (key_text (offer_of key (asks (shape_view c.args.shape.now)))) data_view c.visit_key-read.result (first (shape_view c.args.shape.now) key) c.args.track.now c.visit_key-read.new.track c.leave_key.new.track c.holds-before.ensures c.visit_key-read.ensures.caught c.visit_key-read.ensures.value on_way_out
 
 pub entries::read_value-returns-clause-value : goal.entries::read_value-returns-clause-value
 entries::read_value-returns-clause-value g t c segment same v waits =
@@ -266,8 +266,8 @@ entries::read_value-returns-clause-value g t c segment same v waits =
     let source = de.source c.in_ok-value.value in
     let taken = rw waits at c.in_ok-value.ensures.takes in
     let at_hand : v ≡ source = cc in
-    let on_way_out : c.leave_value.new.track ≡ left de.tracks own c.holds-held.result (is_err c.read-read.result) c.read-read.new.track = search rules in
-    rw at_hand (Gives-value g.D.Error.DeError.fault de.tracks c.holds-held.result own segment data_view c.read-read.result (first (shape_view c.args.shape.now) source) c.args.track.now c.read-read.new.track c.leave_value.new.track c.holds-held.ensures same c.read-read.ensures on_way_out)
+    let on_way_out : c.leave_value.new.track ≡ left de.tracks own c.holds-before.result (is_err c.read-read.result) c.read-read.new.track = search rules in
+    rw at_hand (Gives-value g.D.Error.DeError.fault de.tracks c.holds-before.result own segment data_view c.read-read.result (first (shape_view c.args.shape.now) source) c.args.track.now c.read-read.new.track c.leave_value.new.track c.holds-before.ensures same c.read-read.ensures on_way_out)
 
 pub entries::read_entry-returns-in_err-key-clause-value : goal.entries::read_entry-returns-in_err-key-clause-value
 entries::read_entry-returns-in_err-key-clause-value g t c v waits =
@@ -384,8 +384,8 @@ enums::read_payload-returns g t c segment same =
     let de = g.D.Deserializer in
     let own = variant_segment (de.choice c.args.variant.now).caught in
     let payload = visited_payload (variant_shape_view c.args.shape.now) (de.choice c.args.variant.now).payload in
-    let on_way_out : c.leave_payload.new.track ≡ left de.tracks own c.holds-held.result (is_err c.take_payload-payload.result) c.take_payload-payload.new.track = search rules in
-    Gives-value g.D.Error.DeError.fault de.tracks c.holds-held.result own segment payload_view c.take_payload-payload.result payload c.args.track.now c.take_payload-payload.new.track c.leave_payload.new.track c.holds-held.ensures same c.take_payload-payload.ensures.value on_way_out
+    let on_way_out : c.leave_payload.new.track ≡ left de.tracks own c.holds-before.result (is_err c.take_payload-payload.result) c.take_payload-payload.new.track = search rules in
+    Gives-value g.D.Error.DeError.fault de.tracks c.holds-before.result own segment payload_view c.take_payload-payload.result payload c.args.track.now c.take_payload-payload.new.track c.leave_payload.new.track c.holds-before.ensures same c.take_payload-payload.ensures.value on_way_out
 
 pub enums::take_newtype-returns-in_err-value-clause-value : goal.enums::take_newtype-returns-in_err-value-clause-value
 enums::take_newtype-returns-in_err-value-clause-value g t c =

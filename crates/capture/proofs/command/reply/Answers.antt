@@ -24,8 +24,8 @@ returns-in-Ok-clause-answer g c =
     let text = string_bytes c.in-Ok-Some.answer.line in
     let d = answered_document (document c.args.bytes.now) c.in-Ok-Some.answer.status text found in
     let taken = rw c.as_bytes.ensures.value at c.in-Ok.ensures.ok in
-    let answers = line_answers (document c.args.bytes.now) c.in-Ok-Some.answer.status text (g.O.Out.taken c.args.out.now) (g.O.Out.taken c.write_line.new.out) found taken in
-    subst (λ status. OnAnswer status (IsSomeAnd (document c.args.bytes.now) (λ e. IsAnswer c.in-Ok-Some.answer.status e (g.O.Out.taken c.args.out.now) (g.O.Out.taken c.write_line.new.out))))
+    let answers = line_answers (document c.args.bytes.now) c.in-Ok-Some.answer.status text (g.O.ByteSink.taken c.args.out.now) (g.O.ByteSink.taken c.write_line.new.out) found taken in
+    subst (λ status. OnAnswer status (IsSomeAnd (document c.args.bytes.now) (λ e. IsAnswer c.in-Ok-Some.answer.status e (g.O.ByteSink.taken c.args.out.now) (g.O.ByteSink.taken c.write_line.new.out))))
     (sym d.2) (status_answers (outcome_of d.0) _ answers)
 
 pub returns-in-Ok-clause-write_fault : goal.returns-in-Ok-clause-write_fault
@@ -50,10 +50,10 @@ pub returns-in-Ok-clause-complete : goal.returns-in-Ok-clause-complete
 returns-in-Ok-clause-complete g c =
     let found = rw c.in-Ok-Some.field-0-is at c.in-Ok-Some.ensures in
     let taken = rw c.as_bytes.ensures.value at c.in-Ok.ensures.ok in
-    λ quiet memory. line_concludes (document c.args.bytes.now) c.in-Ok-Some.answer.status (string_bytes c.in-Ok-Some.answer.line) (g.O.Out.taken c.args.out.now) (g.O.Out.taken c.write_line.new.out) found taken
+    λ quiet memory. line_concludes (document c.args.bytes.now) c.in-Ok-Some.answer.status (string_bytes c.in-Ok-Some.answer.line) (g.O.ByteSink.taken c.args.out.now) (g.O.ByteSink.taken c.write_line.new.out) found taken
 
 pub returns-in-Ok-Some-clause-front : goal.returns-in-Ok-Some-clause-front
 returns-in-Ok-Some-clause-front g c =
     let found = rw c.in-Ok-Some.field-0-is at c.in-Ok-Some.ensures in
     let front = rw c.as_bytes.ensures.value at c.in-Err-write_line.ensures.front in
-    λ e. front_of_line (document c.args.bytes.now) c.in-Ok-Some.answer.status (string_bytes c.in-Ok-Some.answer.line) (g.O.Out.taken c.args.out.now) (g.O.Out.taken c.write_line.new.out) found front
+    λ e. front_of_line (document c.args.bytes.now) c.in-Ok-Some.answer.status (string_bytes c.in-Ok-Some.answer.line) (g.O.ByteSink.taken c.args.out.now) (g.O.ByteSink.taken c.write_line.new.out) found front

@@ -1,6 +1,6 @@
 use Rattle.std.proofs.Common.{ℕ, List, ◌≢◌, ◌≤◌, length}
 use Rattle.std.specs.Option.{IfSome, IsSomeAnd}
-use Rattle.data_core.specs.Outside.{HasFailed}
+use Rattle.byte_streams.specs.Outside.{HasFailed}
 use Rattle.capture.specs.Document.{document}
 use Rattle.capture.specs.Run.{most_bytes, IsAnswer, Concludes}
 use Rattle.capture.specs.declared.status.Status.TheVariants.{Memory}
@@ -9,8 +9,8 @@ use Rattle.capture.proofs.command.run.Goals as goal
 
 pub returns-in-Ok-clause-complete : goal.returns-in-Ok-clause-complete
 returns-in-Ok-clause-complete g c =
-    let source = g.S.Source in
-    let out = g.O.Out in
+    let source = g.S.ByteSource in
+    let out = g.O.ByteSink in
     let taken = c.in-Ok.ensures.taken (λ wrong. cc) in
     let concludes = rw c.deref.ensures.value at c.reply.ensures.complete in
     let P : List ℕ → Type 0 = λ stream. length stream ≤ most_bytes
@@ -23,8 +23,8 @@ returns-in-Ok-clause-complete g c =
 
 pub returns-in-Ok-clause-answer : goal.returns-in-Ok-clause-answer
 returns-in-Ok-clause-answer g c =
-    let source = g.S.Source in
-    let out = g.O.Out in
+    let source = g.S.ByteSource in
+    let out = g.O.ByteSink in
     let taken = c.in-Ok.ensures.taken (λ wrong. cc) in
     let answer = rw c.deref.ensures.value at c.reply.ensures.answer in
     let P : List ℕ → Type 0 = λ stream. IsSomeAnd (document stream) (λ d. IsAnswer c.reply.result d (out.taken c.args.out.now) (out.taken c.reply.new.out)) in

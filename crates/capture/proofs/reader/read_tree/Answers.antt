@@ -5,7 +5,7 @@ use Rattle.path_core.specs.Error.{path_of, original_of}
 use Rattle.shape.specs.First.{first}
 use Rattle.shape.specs.View.{shape_view, data_view}
 use Rattle.serde_value.specs.View.{node_view}
-use Rattle.serde_value.specs.ErrorView.{fault_of}
+use Rattle.value_error.specs.ErrorView.{fault_of}
 use Rattle.serde_value.specs.Deserializer.{value_of}
 use Rattle.capture.specs.Reads.{IsRefusalAny}
 use Rattle.capture.proofs.Agreement.{first_agrees}

@@ -1,12 +1,12 @@
 use Rattle.std.proofs.Common.{◌≡◌, ◌+◌, ◌-◌, vec_len}
-use Rattle.data_core.specs.Outside.{with_front}
+use Rattle.byte_streams.specs.Outside.{with_front}
 use Rattle.capture.specs.Run.{most_bytes}
 use Rattle.capture.proofs.stream.read_stream.Given as goal
 
 abbrev pub invariant-reads : goal.invariant-reads
 invariant-reads g l = record {
-  taken : g.S.Source.left l.fn.source ≡ with_front l.bytes.items (g.S.Source.left l.source);
-  faults : g.S.Source.faults l.source ≡ g.S.Source.faults l.fn.source;
+  taken : g.S.ByteSource.left l.fn.source ≡ with_front l.bytes.items (g.S.ByteSource.left l.source);
+  faults : g.S.ByteSource.faults l.source ≡ g.S.ByteSource.faults l.fn.source;
 }
 
 abbrev pub decreases-reads : goal.decreases-reads

@@ -1,5 +1,5 @@
 use Rattle.std.proofs.Common.{◌∙◌, ◌≤◌, length, take, drop, rules, arith, ap, length-drop}
-use Rattle.data_core.specs.Outside.{with_more}
+use Rattle.byte_streams.specs.Outside.{with_more}
 use Rattle.capture.proofs.Streams.{with_more-take, tail}
 use Rattle.capture.proofs.stream.write_line.Goals as goal
 
@@ -12,6 +12,6 @@ writes-preserved g c =
     let taken = rw tail at c.in_ok-at.ensures.taken in
     record {
       within = omega (arith, length-drop at line);
-      taken = taken ∙ ap (λ t. with_more t (take n (drop at line))) c.writes.invariant.taken ∙ with_more-take (g.O.Out.taken c.args.out.now) line at n;
+      taken = taken ∙ ap (λ t. with_more t (take n (drop at line))) c.writes.invariant.taken ∙ with_more-take (g.O.ByteSink.taken c.args.out.now) line at n;
       faults = search rules;
     }

@@ -1,12 +1,12 @@
 use Rattle.std.proofs.Common.{◌≡◌, ◌-◌, ◌≤◌, take, length}
-use Rattle.data_core.specs.Outside.{with_more}
+use Rattle.byte_streams.specs.Outside.{with_more}
 use Rattle.capture.proofs.stream.write_line.Given as goal
 
 abbrev pub invariant-writes : goal.invariant-writes
 invariant-writes g l = record {
   within : l.at ≤ length l.line;
-  taken : g.O.Out.taken l.out ≡ with_more (g.O.Out.taken l.fn.out) (take l.at l.line);
-  faults : g.O.Out.faults l.out ≡ g.O.Out.faults l.fn.out;
+  taken : g.O.ByteSink.taken l.out ≡ with_more (g.O.ByteSink.taken l.fn.out) (take l.at l.line);
+  faults : g.O.ByteSink.faults l.out ≡ g.O.ByteSink.faults l.fn.out;
 }
 
 abbrev pub decreases-writes : goal.decreases-writes

@@ -5,7 +5,7 @@ use Rattle.serde_json.specs.View.{view, items_view}
 use Rattle.serde_value.specs.View.{node_view}
 use Rattle.capture.specs.Words.{trees_of, entries_of}
 use Rattle.data_core.specs.Order.{node_order}
-use Rattle.data_core.specs.Pairs.{put_all}
+use Rattle.sorted_pairs.specs.Pairs.{put_all}
 use Rattle.capture.proofs.Elements.{after}
 use Rattle.capture.proofs.tree_words.+tree.Given as goal
 

@@ -5,10 +5,10 @@ use Rattle.data_core.specs.declared.path.Segment.TheVariants.{Seq}
 use Rattle.data_core.specs.Ask.{any}
 use Rattle.data_core.specs.Source.{offer_of}
 use Rattle.data_core.specs.Sequence.{IsNext}
-use Rattle.data_core.specs.Table.{IsValue, CatchesUnless, entry_segment, text_of, value_of}
+use Rattle.data_core.specs.Table.{IsValue, CatchesUnless, entry_segment, key_text, value_of}
 use Rattle.data_core.specs.Order.{node_order}
 use Rattle.data_core.specs.Outcome.{given, refused}
-use Rattle.data_core.specs.Pairs.{put}
+use Rattle.sorted_pairs.specs.Pairs.{put}
 use Rattle.data_core.specs.Tracking.{left, left_key}
 use Rattle.data_core.proofs.Relations.{RefusedAmong-next, RefusedAmong-key, Among-under}
 use Rattle.data_std.proofs.Elements.{RefusedAmong-whole, after_more, after_end}
@@ -26,9 +26,9 @@ take_element-returns-in_err-value-clause-reads g t c =
     let i = (de.sequence c.args.seq.now).taken in
     let taken = rw c.in-Some.is at c.in_ok-element.ensures.takes in
     let refusal = rw c.in_err-value.was at c.take-value.ensures in
-    let on_way_out : c.leave_element.new.track ≡ left de.tracks (Seq i) c.holds-held.result true c.take-value.new.track = search rules in
+    let on_way_out : c.leave_element.new.track ≡ left de.tracks (Seq i) c.holds-before.result true c.take-value.new.track = search rules in
     rw (p.1, p.2, taken.0)
-    (RefusedAmong-next de.tracks c.holds-held.result reads i (de.source c.in-Some.element) (de.sequence c.next_element.new.seq).left (g.D.Error.DeError.fault c.in_err-value.field-0.0) c.args.track.now c.take-value.new.track c.leave_element.new.track c.holds-held.ensures refusal on_way_out)
+    (RefusedAmong-next de.tracks c.holds-before.result reads i (de.source c.in-Some.element) (de.sequence c.next_element.new.seq).left (g.D.Error.DeError.fault c.in_err-value.field-0.0) c.args.track.now c.take-value.new.track c.leave_element.new.track c.holds-before.ensures refusal on_way_out)
 
 pub take_items-returns-in_err-item : goal.take_items-returns-in_err-item
 take_items-returns-in_err-item g t c =
@@ -80,18 +80,18 @@ take_key-returns-in_err-value-clause-reads g t c =
     let taken = rw c.in-Some.is at c.in_ok-key.ensures.takes in
     let was = c.in_err-value.was in
     let refusal = rw was at c.visit_key-value.ensures.reads in
-    let caught : de.tracks ≡ true → CatchesUnless fault own (text_of (offer_of key any)) = λ tracks. rw was at c.visit_key-value.ensures.caught tracks in
-    let on_way_out : c.leave_key.new.track ≡ left_key de.tracks (entry_segment own) c.holds-held.result true c.visit_key-value.new.track = search rules in
+    let caught : de.tracks ≡ true → CatchesUnless fault own (key_text (offer_of key any)) = λ tracks. rw was at c.visit_key-value.ensures.caught tracks in
+    let on_way_out : c.leave_key.new.track ≡ left_key de.tracks (entry_segment own) c.holds-before.result true c.visit_key-value.new.track = search rules in
     rw (p.1, p.2, taken.1)
-    (RefusedAmong-key de.tracks c.holds-held.result any reads own key taken.0 (de.table c.next_key.new.map).left fault c.args.track.now c.visit_key-value.new.track c.leave_key.new.track c.holds-held.ensures caught refusal on_way_out)
+    (RefusedAmong-key de.tracks c.holds-before.result any reads own key taken.0 (de.table c.next_key.new.map).left fault c.args.track.now c.visit_key-value.new.track c.leave_key.new.track c.holds-before.ensures caught refusal on_way_out)
 
 pub take_value-returns-clause-reads : goal.take_value-returns-clause-reads
 take_value-returns-clause-reads g t c segment same =
     let de = g.D.Deserializer in
     let own = entry_segment (de.table c.args.map.now).caught in
-    let on_way_out : c.leave_value.new.track ≡ left de.tracks own c.holds-held.result (is_err c.take-value.result) c.take-value.new.track = search rules in
+    let on_way_out : c.leave_value.new.track ≡ left de.tracks own c.holds-before.result (is_err c.take-value.result) c.take-value.new.track = search rules in
     rw c.in_ok-value.ensures.takes
-    (Among-under g.D.Error.DeError.fault de.tracks c.holds-held.result (reads (de.source c.in_ok-value.value)) own segment c.take-value.result c.args.track.now c.take-value.new.track c.leave_value.new.track c.holds-held.ensures same c.take-value.ensures on_way_out)
+    (Among-under g.D.Error.DeError.fault de.tracks c.holds-before.result (reads (de.source c.in_ok-value.value)) own segment c.take-value.result c.args.track.now c.take-value.new.track c.leave_value.new.track c.holds-before.ensures same c.take-value.ensures on_way_out)
 
 pub take_entry-returns-in_err-value-clause-reads :
     goal.take_entry-returns-in_err-value-clause-reads

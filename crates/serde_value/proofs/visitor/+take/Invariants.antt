@@ -1,6 +1,6 @@
 use Rattle.std.proofs.Common.{◌≡◌, ◌+◌, ◌*◌, ◌≤◌, List, [], map}
 use Rattle.data_core.specs.Order.{node_order}
-use Rattle.data_core.specs.Pairs.{put_all}
+use Rattle.sorted_pairs.specs.Pairs.{put_all}
 use Rattle.data_core.specs.Source.{count, count_entries}
 use Rattle.data_core.specs.Show.{shown_offer}
 use Rattle.data_core.specs.Tracking.{clear}

@@ -3,7 +3,7 @@ use Rattle.std.specs.Str.{is_utf8}
 use Rattle.std.proofs.lemmas.Str.{is_utf8-from_IsUtf8, IsUtf8-string_bytes}
 use Rattle.data_core.specs.Outcome.{given}
 use Rattle.shape.specs.Shape.{text_data}
-use Rattle.data_std.proofs.Texts.{is_utf8-not}
+use Rattle.scalar_seeds.proofs.Texts.{is_utf8-not}
 use Rattle.shape.proofs.scalars.text_of_bytes.Goals as goal
 
 pub returns-in-Ok : goal.returns-in-Ok

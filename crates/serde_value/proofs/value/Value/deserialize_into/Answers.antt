@@ -1,7 +1,7 @@
 use Rattle.data_core.specs.Node.{of_node}
 use Rattle.data_core.specs.Source.{offer_of}
 use Rattle.data_core.specs.Outcome.{Among}
-use Rattle.serde_value.specs.ErrorView.{fault_of}
+use Rattle.value_error.specs.ErrorView.{fault_of}
 use Rattle.serde_value.specs.View.{node_view}
 use Rattle.serde_value.proofs.Readings.{reads_among}
 use Rattle.serde_value.proofs.value.Value.deserialize_into.Goals as goal

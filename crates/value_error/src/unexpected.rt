@@ -1,11 +1,8 @@
 //! What a reader saw where it wanted something else, owned.
 ghost use Rattle.std.specs.Prelude.{◌≡◌, IfOk};
 ghost use Rattle.data_core.specs.Unexpected.{kind_of as kind_lent, seen_of as seen_lent};
-ghost use Rattle.data_core.specs.Node.{own_kind};
-ghost use Rattle.serde_value.specs.Unexpected.{kind_of, seen_of, seen_of_node};
-ghost use Rattle.serde_value.specs.View.{node_view};
+ghost use Rattle.value_error.specs.Unexpected.{kind_of, seen_of};
 
-use crate::value::Value;
 use data_core::Text;
 use std::alloc::{AllocError, Global};
 use std::fmt;
@@ -82,34 +79,6 @@ impl Unexpected {
             Unexpected::TupleVariant => data_core::Unexpected::TupleVariant,
             Unexpected::StructVariant => data_core::Unexpected::StructVariant,
             Unexpected::Other(s) => data_core::Unexpected::Other(s.as_str()),
-        }
-    }
-}
-
-impl Value {
-    // What a refusal says of a tree, lent.
-    pub(crate) fn unexpected(&self) -> data_core::Unexpected<'_>
-        ensures seen { seen_lent result ≡ seen_of_node (node_view self.now) }
-        ensures kind { kind_lent result ≡ own_kind (node_view self.now) }
-    {
-        match self {
-            Value::Bool(b) => data_core::Unexpected::Bool(*b),
-            Value::U8(n) => data_core::Unexpected::Unsigned(u64::from(*n)),
-            Value::U16(n) => data_core::Unexpected::Unsigned(u64::from(*n)),
-            Value::U32(n) => data_core::Unexpected::Unsigned(u64::from(*n)),
-            Value::U64(n) => data_core::Unexpected::Unsigned(*n),
-            Value::I8(n) => data_core::Unexpected::Signed(i64::from(*n)),
-            Value::I16(n) => data_core::Unexpected::Signed(i64::from(*n)),
-            Value::I32(n) => data_core::Unexpected::Signed(i64::from(*n)),
-            Value::I64(n) => data_core::Unexpected::Signed(*n),
-            Value::Char(c) => data_core::Unexpected::Char(*c),
-            Value::String(text) => data_core::Unexpected::Str(text.as_str()),
-            Value::Unit => data_core::Unexpected::Unit,
-            Value::Option(_) => data_core::Unexpected::Option,
-            Value::Newtype(_) => data_core::Unexpected::NewtypeStruct,
-            Value::Seq(_) => data_core::Unexpected::Seq,
-            Value::Map(_) => data_core::Unexpected::Map,
-            Value::Bytes(bytes) => data_core::Unexpected::Bytes(bytes.as_slice()),
         }
     }
 }

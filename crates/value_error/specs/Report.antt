@@ -1,9 +1,9 @@
 -- An error as plain data, with its texts.
 use Rattle.std.specs.Prelude.{ℕ, ◌≡◌, List}
 use Rattle.data_core.specs.Unexpected.{Seen}
-use Rattle.serde_value.specs.Unexpected.{seen_of}
-use Rattle.serde_value.specs.declared.error.DeserializerError.{DeserializerError}
-use Rattle.serde_value.specs.declared.error.DeserializerError.TheVariants as error
+use Rattle.value_error.specs.Unexpected.{seen_of}
+use Rattle.value_error.specs.declared.error.DeserializerError.{DeserializerError}
+use Rattle.value_error.specs.declared.error.DeserializerError.TheVariants as error
 
 pub data Report : Type 0 where
   custom : List ℕ → Report

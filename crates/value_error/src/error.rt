@@ -2,9 +2,9 @@
 ghost use Rattle.std.specs.Prelude.{◌≡◌, None};
 ghost use Rattle.data_core.specs.Fault.{IsCalled};
 ghost use Rattle.data_core.specs.Unexpected.{kind_of, seen_of};
-ghost use Rattle.serde_value.specs.ErrorView.{fault_of, SameFault};
-ghost use Rattle.serde_value.specs.Report.{Reports};
-ghost use Rattle.serde_value.specs.Report as report;
+ghost use Rattle.value_error.specs.ErrorView.{fault_of, SameFault};
+ghost use Rattle.value_error.specs.Report.{Reports};
+ghost use Rattle.value_error.specs.Report as report;
 
 use crate::unexpected::Unexpected;
 use data_core::{DeError, Fault, Names, Text};

@@ -2,9 +2,9 @@
 use Rattle.std.specs.Prelude.{◌≡◌, Option, Some, None}
 use Rattle.data_core.specs.declared.fault.Fault.{Fault}
 use Rattle.data_core.specs.declared.fault.Fault.TheVariants as fault
-use Rattle.serde_value.specs.Unexpected.{kind_of}
-use Rattle.serde_value.specs.declared.error.DeserializerError.{DeserializerError}
-use Rattle.serde_value.specs.declared.error.DeserializerError.TheVariants as error
+use Rattle.value_error.specs.Unexpected.{kind_of}
+use Rattle.value_error.specs.declared.error.DeserializerError.{DeserializerError}
+use Rattle.value_error.specs.declared.error.DeserializerError.TheVariants as error
 
 abbrev pub fault_of : DeserializerError → Option Fault
 fault_of (error.Custom msg) = Some fault.Custom

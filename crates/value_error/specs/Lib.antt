@@ -1,0 +1,3 @@
+pub mod Unexpected
+pub mod ErrorView
+pub mod Report
