@@ -1,9 +1,5 @@
-pub mod Chosen
 pub mod Depths
 pub mod Edits
-pub mod OfShape
 pub mod Places
-pub mod Seeds
-pub mod Steps
 pub mod Views
 pub mod Walks

@@ -1,20 +1,13 @@
 -- The shapes of a row, and those of variants, as the lists that their vectors hold.
-use Rattle.std.proofs.Common.{◌≡◌, ◌∙◌, ℕ, List, [], ◌∷◌, true, false, ap, refl, map, length, Vec, Global, arith}
-use Rattle.data_core.specs.Ask as ask
-use Rattle.data_core.specs.Source.{Offer}
-use Rattle.data_core.specs.Wanted.{Wanted}
-use Rattle.data_core.specs.Wanted as wanted
+use Rattle.std.proofs.Common.{◌≡◌, ◌∙◌, ℕ, List, [], ◌∷◌, None, Some, ap, refl, map, length, Vec, Global, arith}
 use Rattle.shape.specs.declared.shapes.Fields.{Fields}
 use Rattle.shape.specs.declared.shapes.Variants.{Variants}
 use Rattle.shape.specs.declared.shapes.VariantShape.{VariantShape}
 use Rattle.shape.specs.declared.shapes.VariantShape as held
-use Rattle.shape.specs.Shape.{tuple, tuple_struct, prefix, prefix_struct, struct, strict, loose, enum, shape, shapes_of, number_of, payload, payloads_of, tuple_variant, struct_variant, strict_variant, loose_variant}
-use Rattle.shape.specs.Fields.{fields_of}
-use Rattle.shape.specs.Variants.{variants_of}
-use Rattle.shape.specs.First.{first, readers, asks, visited, tuple_of, prefix_of, struct_of, enum_of, visited_payload, payload_readers, tuple_payload_of, struct_payload_of}
+use Rattle.shape.specs.Shape.{whole, prefix, exact, strict, loose, tuple, struct, enum, shape, shapes_of, number_of, payload, payloads_of, tuple_variant, struct_variant}
 use Rattle.shape.specs.Upgraded.{upgraded, upgraded_all, upgraded_payload, upgraded_payloads}
 use Rattle.shape.specs.declared.shapes.Shape.{Shape, Tuple, Tuple', TupleStruct, TupleStruct', Prefix, Prefix', PrefixStruct, PrefixStruct', Struct, Struct', Strict, Strict', Loose, Loose', Enum, Enum', Row_of-Shape, end_of-Shape, more_of-Shape, items-the_row-Shape, items_hidden-the_row-Shape-0, Row_of-VariantShape, end_of-VariantShape, more_of-VariantShape, items-the_row-VariantShape, items_hidden-the_row-VariantShape-1}
-use Rattle.shape.specs.View.{shape_view, shapes_view, variant_shape_view, payloads_view, readers_of, fields_in, payload_readers_of, variants_in}
+use Rattle.shape.specs.View.{shape_view, shapes_view, variant_shape_view, payloads_view}
 
 shapes_view-items : (n : _) (row : Row_of-Shape n) → shapes_view row ≡ shapes_of (map shape_view (items-the_row-Shape n row))
 shapes_view-items n end_of-Shape = refl
@@ -31,40 +24,40 @@ row_in (Strict' _ _ _ row) = (_, row)
 row_in (Loose' _ _ _ row) = (_, row)
 row_in _ = (_, end_of-Shape)
 
-pub view_of_tuple : (all : Vec Shape Global) → shape_view (Tuple all) ≡ tuple (shapes_of (map shape_view all.items))
+pub view_of_tuple : (all : Vec Shape Global) → shape_view (Tuple all) ≡ tuple whole None (shapes_of (map shape_view all.items))
 view_of_tuple all =
     let row = row_in (Tuple all) in
-    ap tuple (shapes_view-items row.0 row.1 ∙ ap (λ bs. shapes_of (map shape_view bs)) (items_hidden-the_row-Shape-0 all))
+    ap (tuple whole None) (shapes_view-items row.0 row.1 ∙ ap (λ bs. shapes_of (map shape_view bs)) (items_hidden-the_row-Shape-0 all))
 
-pub view_of_tuple_struct : (name : List ℕ) (all : Vec Shape Global) → shape_view (TupleStruct name all) ≡ tuple_struct name (shapes_of (map shape_view all.items))
+pub view_of_tuple_struct : (name : List ℕ) (all : Vec Shape Global) → shape_view (TupleStruct name all) ≡ tuple whole (Some name) (shapes_of (map shape_view all.items))
 view_of_tuple_struct name all =
     let row = row_in (TupleStruct name all) in
-    ap (tuple_struct name) (shapes_view-items row.0 row.1 ∙ ap (λ bs. shapes_of (map shape_view bs)) (items_hidden-the_row-Shape-0 all))
+    ap (tuple whole (Some name)) (shapes_view-items row.0 row.1 ∙ ap (λ bs. shapes_of (map shape_view bs)) (items_hidden-the_row-Shape-0 all))
 
-pub view_of_prefix : (all : Vec Shape Global) → shape_view (Prefix all) ≡ prefix (shapes_of (map shape_view all.items))
+pub view_of_prefix : (all : Vec Shape Global) → shape_view (Prefix all) ≡ tuple prefix None (shapes_of (map shape_view all.items))
 view_of_prefix all =
     let row = row_in (Prefix all) in
-    ap prefix (shapes_view-items row.0 row.1 ∙ ap (λ bs. shapes_of (map shape_view bs)) (items_hidden-the_row-Shape-0 all))
+    ap (tuple prefix None) (shapes_view-items row.0 row.1 ∙ ap (λ bs. shapes_of (map shape_view bs)) (items_hidden-the_row-Shape-0 all))
 
-pub view_of_prefix_struct : (name : List ℕ) (all : Vec Shape Global) → shape_view (PrefixStruct name all) ≡ prefix_struct name (shapes_of (map shape_view all.items))
+pub view_of_prefix_struct : (name : List ℕ) (all : Vec Shape Global) → shape_view (PrefixStruct name all) ≡ tuple prefix (Some name) (shapes_of (map shape_view all.items))
 view_of_prefix_struct name all =
     let row = row_in (PrefixStruct name all) in
-    ap (prefix_struct name) (shapes_view-items row.0 row.1 ∙ ap (λ bs. shapes_of (map shape_view bs)) (items_hidden-the_row-Shape-0 all))
+    ap (tuple prefix (Some name)) (shapes_view-items row.0 row.1 ∙ ap (λ bs. shapes_of (map shape_view bs)) (items_hidden-the_row-Shape-0 all))
 
-pub view_of_struct : (name : List ℕ) (f : Fields) → shape_view (Struct name f) ≡ struct name f.names (shapes_of (map shape_view f.shapes.items))
+pub view_of_struct : (name : List ℕ) (f : Fields) → shape_view (Struct name f) ≡ struct exact name f.names (shapes_of (map shape_view f.shapes.items))
 view_of_struct name f =
     let row = row_in (Struct name f) in
-    ap (struct name f.names) (shapes_view-items row.0 row.1 ∙ ap (λ bs. shapes_of (map shape_view bs)) (items_hidden-the_row-Shape-0 f.shapes))
+    ap (struct exact name f.names) (shapes_view-items row.0 row.1 ∙ ap (λ bs. shapes_of (map shape_view bs)) (items_hidden-the_row-Shape-0 f.shapes))
 
-pub view_of_strict : (name : List ℕ) (f : Fields) → shape_view (Strict name f) ≡ strict name f.names (shapes_of (map shape_view f.shapes.items))
+pub view_of_strict : (name : List ℕ) (f : Fields) → shape_view (Strict name f) ≡ struct strict name f.names (shapes_of (map shape_view f.shapes.items))
 view_of_strict name f =
     let row = row_in (Strict name f) in
-    ap (strict name f.names) (shapes_view-items row.0 row.1 ∙ ap (λ bs. shapes_of (map shape_view bs)) (items_hidden-the_row-Shape-0 f.shapes))
+    ap (struct strict name f.names) (shapes_view-items row.0 row.1 ∙ ap (λ bs. shapes_of (map shape_view bs)) (items_hidden-the_row-Shape-0 f.shapes))
 
-pub view_of_loose : (name : List ℕ) (f : Fields) → shape_view (Loose name f) ≡ loose name f.names (shapes_of (map shape_view f.shapes.items))
+pub view_of_loose : (name : List ℕ) (f : Fields) → shape_view (Loose name f) ≡ struct loose name f.names (shapes_of (map shape_view f.shapes.items))
 view_of_loose name f =
     let row = row_in (Loose name f) in
-    ap (loose name f.names) (shapes_view-items row.0 row.1 ∙ ap (λ bs. shapes_of (map shape_view bs)) (items_hidden-the_row-Shape-0 f.shapes))
+    ap (struct loose name f.names) (shapes_view-items row.0 row.1 ∙ ap (λ bs. shapes_of (map shape_view bs)) (items_hidden-the_row-Shape-0 f.shapes))
 
 payloads_view-items : (n : _) (row : Row_of-VariantShape n) → payloads_view row ≡ payloads_of (map variant_shape_view (items-the_row-VariantShape n row))
 payloads_view-items n end_of-VariantShape = refl
@@ -93,20 +86,20 @@ view_of_tuple_variant all =
     let row = row_of_variant (held.Tuple all) in
     ap tuple_variant (shapes_view-items row.0 row.1 ∙ ap (λ bs. shapes_of (map shape_view bs)) (items_hidden-the_row-Shape-0 all))
 
-pub view_of_struct_variant : (f : Fields) → variant_shape_view (held.Struct f) ≡ struct_variant f.names (shapes_of (map shape_view f.shapes.items))
+pub view_of_struct_variant : (f : Fields) → variant_shape_view (held.Struct f) ≡ struct_variant exact f.names (shapes_of (map shape_view f.shapes.items))
 view_of_struct_variant f =
     let row = row_of_variant (held.Struct f) in
-    ap (struct_variant f.names) (shapes_view-items row.0 row.1 ∙ ap (λ bs. shapes_of (map shape_view bs)) (items_hidden-the_row-Shape-0 f.shapes))
+    ap (struct_variant exact f.names) (shapes_view-items row.0 row.1 ∙ ap (λ bs. shapes_of (map shape_view bs)) (items_hidden-the_row-Shape-0 f.shapes))
 
-pub view_of_strict_variant : (f : Fields) → variant_shape_view (held.Strict f) ≡ strict_variant f.names (shapes_of (map shape_view f.shapes.items))
+pub view_of_strict_variant : (f : Fields) → variant_shape_view (held.Strict f) ≡ struct_variant strict f.names (shapes_of (map shape_view f.shapes.items))
 view_of_strict_variant f =
     let row = row_of_variant (held.Strict f) in
-    ap (strict_variant f.names) (shapes_view-items row.0 row.1 ∙ ap (λ bs. shapes_of (map shape_view bs)) (items_hidden-the_row-Shape-0 f.shapes))
+    ap (struct_variant strict f.names) (shapes_view-items row.0 row.1 ∙ ap (λ bs. shapes_of (map shape_view bs)) (items_hidden-the_row-Shape-0 f.shapes))
 
-pub view_of_loose_variant : (f : Fields) → variant_shape_view (held.Loose f) ≡ loose_variant f.names (shapes_of (map shape_view f.shapes.items))
+pub view_of_loose_variant : (f : Fields) → variant_shape_view (held.Loose f) ≡ struct_variant loose f.names (shapes_of (map shape_view f.shapes.items))
 view_of_loose_variant f =
     let row = row_of_variant (held.Loose f) in
-    ap (loose_variant f.names) (shapes_view-items row.0 row.1 ∙ ap (λ bs. shapes_of (map shape_view bs)) (items_hidden-the_row-Shape-0 f.shapes))
+    ap (struct_variant loose f.names) (shapes_view-items row.0 row.1 ∙ ap (λ bs. shapes_of (map shape_view bs)) (items_hidden-the_row-Shape-0 f.shapes))
 
 pub ruleset views_of_rows = (view_of_tuple, view_of_tuple_struct, view_of_prefix, view_of_prefix_struct, view_of_struct, view_of_strict, view_of_loose, view_of_enum, view_of_tuple_variant, view_of_struct_variant, view_of_strict_variant, view_of_loose_variant)
 
@@ -114,77 +107,12 @@ pub number_of-shapes : (all : List Shape) → number_of (shapes_of (map shape_vi
 number_of-shapes [] = refl
 number_of-shapes (a ∷ rest) = omega (arith, number_of-shapes rest)
 
-pub readers-shapes : (all : List Shape) → readers (shapes_of (map shape_view all)) ≡ readers_of all
-readers-shapes [] = refl
-readers-shapes (a ∷ rest) = ap (λ rs. first (shape_view a) ∷ rs) (readers-shapes rest)
-
 pub upgraded-shapes : (all : List Shape) → upgraded_all (shapes_of (map shape_view all)) ≡ shapes_of (map (λ a. upgraded (shape_view a)) all)
 upgraded-shapes [] = refl
 upgraded-shapes (a ∷ rest) = ap (shape (upgraded (shape_view a))) (upgraded-shapes rest)
-
-payload_readers-payloads : (all : List VariantShape) → payload_readers (payloads_of (map variant_shape_view all)) ≡ payload_readers_of all
-payload_readers-payloads [] = refl
-payload_readers-payloads (a ∷ rest) = ap (λ rs. visited_payload (variant_shape_view a) ∷ rs) (payload_readers-payloads rest)
 
 pub upgraded-payloads : (all : List VariantShape) → upgraded_payloads (payloads_of (map variant_shape_view all)) ≡ payloads_of (map (λ a. upgraded_payload (variant_shape_view a)) all)
 upgraded-payloads [] = refl
 upgraded-payloads (a ∷ rest) = ap (payload (upgraded_payload (variant_shape_view a))) (upgraded-payloads rest)
 
--- what a shape with a row hopes for, and what it makes of an offer
-
-pub asks_of_tuple_struct : (name : List ℕ) (all : Vec Shape Global) → asks (shape_view (TupleStruct name all)) ≡ ask.tuple_struct name (length all.items)
-asks_of_tuple_struct name all = ap asks (view_of_tuple_struct name all) ∙ ap (ask.tuple_struct name) (number_of-shapes all.items)
-
-pub asks_of_prefix_struct : (name : List ℕ) (all : Vec Shape Global) → asks (shape_view (PrefixStruct name all)) ≡ ask.tuple_struct name (length all.items)
-asks_of_prefix_struct name all = ap asks (view_of_prefix_struct name all) ∙ ap (ask.tuple_struct name) (number_of-shapes all.items)
-
-pub visited_tuple : (all : Vec Shape Global) (o : Offer) → visited (shape_view (Tuple all)) o ≡ tuple_of (readers_of all.items) o
-visited_tuple all o = ap (λ a. visited a o) (view_of_tuple all) ∙ ap (λ rs. tuple_of rs o) (readers-shapes all.items)
-
-pub visited_tuple_struct : (name : List ℕ) (all : Vec Shape Global) (o : Offer) → visited (shape_view (TupleStruct name all)) o ≡ tuple_of (readers_of all.items) o
-visited_tuple_struct name all o = ap (λ a. visited a o) (view_of_tuple_struct name all) ∙ ap (λ rs. tuple_of rs o) (readers-shapes all.items)
-
-pub visited_prefix : (all : Vec Shape Global) (o : Offer) → visited (shape_view (Prefix all)) o ≡ prefix_of (readers_of all.items) o
-visited_prefix all o = ap (λ a. visited a o) (view_of_prefix all) ∙ ap (λ rs. prefix_of rs o) (readers-shapes all.items)
-
-pub visited_prefix_struct : (name : List ℕ) (all : Vec Shape Global) (o : Offer) → visited (shape_view (PrefixStruct name all)) o ≡ prefix_of (readers_of all.items) o
-visited_prefix_struct name all o = ap (λ a. visited a o) (view_of_prefix_struct name all) ∙ ap (λ rs. prefix_of rs o) (readers-shapes all.items)
-
-pub visited_struct : (name : List ℕ) (f : Fields) (o : Offer) → visited (shape_view (Struct name f)) o ≡ struct_of true true (fields_in f) (readers_of f.shapes.items) o
-visited_struct name f o =
-    ap (λ a. visited a o) (view_of_struct name f) ∙ ap (λ rs. struct_of true true (fields_of f.names (shapes_of (map shape_view f.shapes.items)) rs) rs o) (readers-shapes f.shapes.items)
-
-pub visited_strict : (name : List ℕ) (f : Fields) (o : Offer) → visited (shape_view (Strict name f)) o ≡ struct_of false true (fields_in f) (readers_of f.shapes.items) o
-visited_strict name f o =
-    ap (λ a. visited a o) (view_of_strict name f) ∙ ap (λ rs. struct_of false true (fields_of f.names (shapes_of (map shape_view f.shapes.items)) rs) rs o) (readers-shapes f.shapes.items)
-
-pub visited_loose : (name : List ℕ) (f : Fields) (o : Offer) → visited (shape_view (Loose name f)) o ≡ struct_of false false (fields_in f) (readers_of f.shapes.items) o
-visited_loose name f o =
-    ap (λ a. visited a o) (view_of_loose name f) ∙ ap (λ rs. struct_of false false (fields_of f.names (shapes_of (map shape_view f.shapes.items)) rs) rs o) (readers-shapes f.shapes.items)
-
-pub visited_enum : (name : List ℕ) (all : Variants) (o : Offer) → visited (shape_view (Enum name all)) o ≡ enum_of (variants_in all) o
-visited_enum name all o = ap (λ a. visited a o) (view_of_enum name all) ∙ ap (λ rs. enum_of (variants_of all.names rs) o) (payload_readers-payloads all.shapes.items)
-
--- what a variant with a row makes of what is offered for its payload
-
-pub visited_tuple_variant : (all : Vec Shape Global) (offered : Wanted → Offer)
-    → visited_payload (variant_shape_view (held.Tuple all)) offered ≡ tuple_payload_of (readers_of all.items) (offered (wanted.tuple (length all.items)))
-visited_tuple_variant all offered =
-    ap (λ p. visited_payload p offered) (view_of_tuple_variant all) ∙ (λ i. tuple_payload_of (readers-shapes all.items i) (offered (wanted.tuple (number_of-shapes all.items i))))
-
-pub visited_struct_variant : (f : Fields) (offered : Wanted → Offer)
-    → visited_payload (variant_shape_view (held.Struct f)) offered ≡ struct_payload_of true (fields_in f) (offered (wanted.struct f.names))
-visited_struct_variant f offered =
-    ap (λ p. visited_payload p offered) (view_of_struct_variant f) ∙ ap (λ rs. struct_payload_of true (fields_of f.names (shapes_of (map shape_view f.shapes.items)) rs) (offered (wanted.struct f.names))) (readers-shapes f.shapes.items)
-
-pub visited_strict_variant : (f : Fields) (offered : Wanted → Offer)
-    → visited_payload (variant_shape_view (held.Strict f)) offered ≡ struct_payload_of true (fields_in f) (offered (wanted.struct f.names))
-visited_strict_variant f offered =
-    ap (λ p. visited_payload p offered) (view_of_strict_variant f) ∙ ap (λ rs. struct_payload_of true (fields_of f.names (shapes_of (map shape_view f.shapes.items)) rs) (offered (wanted.struct f.names))) (readers-shapes f.shapes.items)
-
-pub visited_loose_variant : (f : Fields) (offered : Wanted → Offer)
-    → visited_payload (variant_shape_view (held.Loose f)) offered ≡ struct_payload_of false (fields_in f) (offered (wanted.struct f.names))
-visited_loose_variant f offered =
-    ap (λ p. visited_payload p offered) (view_of_loose_variant f) ∙ ap (λ rs. struct_payload_of false (fields_of f.names (shapes_of (map shape_view f.shapes.items)) rs) (offered (wanted.struct f.names))) (readers-shapes f.shapes.items)
-
-pub ruleset rows = (views_of_rows, number_of-shapes, readers-shapes, upgraded-shapes, upgraded-payloads)
+pub ruleset rows = (views_of_rows, number_of-shapes, upgraded-shapes, upgraded-payloads)

@@ -1,16 +1,9 @@
 pub mod Shape
+pub mod Names
 pub mod DataCode
 pub mod Depth
-pub mod Fields
-pub mod Variants
-pub mod First
-pub mod OfShape
 pub mod View
-pub mod Steps
 pub mod Sizes
 pub mod DataOrder
 pub mod DataOrderLaws
-pub mod Refusals
-pub mod ShapeSeed
 pub mod Upgraded
-pub mod Integer

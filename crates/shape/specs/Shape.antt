@@ -1,38 +1,47 @@
 -- Shapes, and the data that is read by them, as plain data.
-use Rattle.std.specs.Prelude.{ℕ, ℤ, ◌+◌, Bool, List, [], ◌∷◌}
+use Rattle.std.specs.Prelude.{ℕ, ℤ, ◌+◌, Bool, true, false, List, [], ◌∷◌, Option}
+
+-- what is read that has no parts
+pub data ScalarShape : Type 0 where
+  boolean : ScalarShape
+  u8 : ScalarShape
+  u16 : ScalarShape
+  u32 : ScalarShape
+  u64 : ScalarShape
+  i8 : ScalarShape
+  i16 : ScalarShape
+  i32 : ScalarShape
+  i64 : ScalarShape
+  character : ScalarShape
+  text : ScalarShape
+  bytes : ScalarShape
+  unit : ScalarShape
+  unit_struct : List ℕ → ScalarShape
+
+-- a tuple as a whole, and a prefix, after which more elements may come
+pub data Exactness : Type 0 where
+  whole : Exactness
+  prefix : Exactness
+
+-- a struct beside whose fields nothing may come, one after whose elements more may come, and one between whose
+-- fields others may come, too
+pub data Strictness : Type 0 where
+  exact : Strictness
+  strict : Strictness
+  loose : Strictness
 
 mutual
   pub data Shape : Type 0 where
-    boolean : Shape
-    u8 : Shape
-    u16 : Shape
-    u32 : Shape
-    u64 : Shape
-    i8 : Shape
-    i16 : Shape
-    i32 : Shape
-    i64 : Shape
-    character : Shape
-    text : Shape
-    bytes : Shape
-    unit : Shape
-    unit_struct : List ℕ → Shape
+    scalar : ScalarShape → Shape
     option : Shape → Shape
     seq : Shape → Shape
-    tuple : Shapes → Shape
-    tuple_struct : List ℕ → Shapes → Shape
-    -- a tuple, and a tuple struct, after which more elements may come
-    prefix : Shapes → Shape
-    prefix_struct : List ℕ → Shapes → Shape
+    -- elements, each of a shape of its own, and the name of a tuple struct
+    tuple : Exactness → Option (List ℕ) → Shapes → Shape
     -- the shape of the keys, and that of the values
     map : Shape → Shape → Shape
     newtype : List ℕ → Shape → Shape
     -- a struct: its name, the names of its fields, and the shapes at their places
-    struct : List ℕ → List (List ℕ) → Shapes → Shape
-    -- a struct, after whose elements more may come
-    strict : List ℕ → List (List ℕ) → Shapes → Shape
-    -- a struct, beside whose fields others may come, too
-    loose : List ℕ → List (List ℕ) → Shapes → Shape
+    struct : Strictness → List ℕ → List (List ℕ) → Shapes → Shape
     -- an enum: its name, the names of its variants, and what they hold at their places
     enum : List ℕ → List (List ℕ) → Payloads → Shape
 
@@ -50,11 +59,24 @@ mutual
     unit_variant : PayloadShape
     newtype_variant : Shape → PayloadShape
     tuple_variant : Shapes → PayloadShape
-    struct_variant : List (List ℕ) → Shapes → PayloadShape
-    -- fields beside which no others may come, in an upgraded shape too
-    strict_variant : List (List ℕ) → Shapes → PayloadShape
-    -- fields beside which others may come
-    loose_variant : List (List ℕ) → Shapes → PayloadShape
+    struct_variant : Strictness → List (List ℕ) → Shapes → PayloadShape
+
+-- more elements than there are shapes are refused
+abbrev pub is_whole : Exactness → Bool
+is_whole whole = true
+is_whole prefix = false
+
+-- how a struct takes elements
+abbrev pub by_position : Strictness → Exactness
+by_position exact = whole
+by_position strict = prefix
+by_position loose = prefix
+
+-- a name that is none of the fields' is refused
+abbrev pub is_strict : Strictness → Bool
+is_strict exact = true
+is_strict strict = true
+is_strict loose = false
 
 abbrev pub shapes_of : List Shape → Shapes
 shapes_of [] = no_shapes

@@ -1,14 +1,8 @@
 -- The shapes and the data of the code, as those of the specs.
 use denote.Ref.{Bor}
-use Rattle.std.specs.Prelude.{ℕ, List, map, Option, None, Some, option_map, Vec}
-use Rattle.std.specs.declared.alloc.Global.{Global}
-use Rattle.data_core.specs.Source.{Source, Offer}
-use Rattle.data_core.specs.Wanted.{Wanted}
-use Rattle.data_core.specs.Outcome.{Outcome}
+use Rattle.std.specs.Prelude.{ℕ, List, Option, None, Some}
 use Rattle.shape.specs.Shape as spec
-use Rattle.shape.specs.Fields.{Field, fields_of}
-use Rattle.shape.specs.Variants.{Variant, variants_of}
-use Rattle.shape.specs.First.{first, visited_payload}
+use Rattle.shape.specs.Names.{paired}
 use Rattle.shape.specs.declared.shapes.Shape.{Shape, Row_of-Shape, end_of-Shape, more_of-Shape, Row_of-VariantShape, end_of-VariantShape, more_of-VariantShape}
 use Rattle.shape.specs.declared.shapes.Shape as shape
 use Rattle.shape.specs.declared.shapes.Fields.{Fields}
@@ -22,31 +16,31 @@ use Rattle.shape.specs.declared.data.Payload.TheVariants as payload
 
 abbrev mutual
   pub shape_view : Shape → spec.Shape
-  shape_view shape.Bool = spec.boolean
-  shape_view shape.U8 = spec.u8
-  shape_view shape.U16 = spec.u16
-  shape_view shape.U32 = spec.u32
-  shape_view shape.U64 = spec.u64
-  shape_view shape.I8 = spec.i8
-  shape_view shape.I16 = spec.i16
-  shape_view shape.I32 = spec.i32
-  shape_view shape.I64 = spec.i64
-  shape_view shape.Char = spec.character
-  shape_view shape.Text = spec.text
-  shape_view shape.Bytes = spec.bytes
-  shape_view shape.Unit = spec.unit
-  shape_view (shape.UnitStruct name) = spec.unit_struct name
+  shape_view shape.Bool = spec.scalar spec.boolean
+  shape_view shape.U8 = spec.scalar spec.u8
+  shape_view shape.U16 = spec.scalar spec.u16
+  shape_view shape.U32 = spec.scalar spec.u32
+  shape_view shape.U64 = spec.scalar spec.u64
+  shape_view shape.I8 = spec.scalar spec.i8
+  shape_view shape.I16 = spec.scalar spec.i16
+  shape_view shape.I32 = spec.scalar spec.i32
+  shape_view shape.I64 = spec.scalar spec.i64
+  shape_view shape.Char = spec.scalar spec.character
+  shape_view shape.Text = spec.scalar spec.text
+  shape_view shape.Bytes = spec.scalar spec.bytes
+  shape_view shape.Unit = spec.scalar spec.unit
+  shape_view (shape.UnitStruct name) = spec.scalar (spec.unit_struct name)
   shape_view (shape.Option' p a) = spec.option (shape_view a)
   shape_view (shape.Seq' p a) = spec.seq (shape_view a)
-  shape_view (shape.Tuple' m row) = spec.tuple (shapes_view row)
-  shape_view (shape.TupleStruct' name m row) = spec.tuple_struct name (shapes_view row)
-  shape_view (shape.Prefix' m row) = spec.prefix (shapes_view row)
-  shape_view (shape.PrefixStruct' name m row) = spec.prefix_struct name (shapes_view row)
+  shape_view (shape.Tuple' m row) = spec.tuple spec.whole None (shapes_view row)
+  shape_view (shape.TupleStruct' name m row) = spec.tuple spec.whole (Some name) (shapes_view row)
+  shape_view (shape.Prefix' m row) = spec.tuple spec.prefix None (shapes_view row)
+  shape_view (shape.PrefixStruct' name m row) = spec.tuple spec.prefix (Some name) (shapes_view row)
   shape_view (shape.Map' p k v) = spec.map (shape_view k) (shape_view v)
   shape_view (shape.Newtype' name p a) = spec.newtype name (shape_view a)
-  shape_view (shape.Struct' name names m row) = spec.struct name names (shapes_view row)
-  shape_view (shape.Strict' name names m row) = spec.strict name names (shapes_view row)
-  shape_view (shape.Loose' name names m row) = spec.loose name names (shapes_view row)
+  shape_view (shape.Struct' name names m row) = spec.struct spec.exact name names (shapes_view row)
+  shape_view (shape.Strict' name names m row) = spec.struct spec.strict name names (shapes_view row)
+  shape_view (shape.Loose' name names m row) = spec.struct spec.loose name names (shapes_view row)
   shape_view (shape.Enum' name names m row) = spec.enum name names (payloads_view row)
 
   pub shapes_view : {m : _} → Row_of-Shape m → spec.Shapes
@@ -57,9 +51,9 @@ abbrev mutual
   variant_shape_view variant.Unit = spec.unit_variant
   variant_shape_view (variant.Newtype' p a) = spec.newtype_variant (shape_view a)
   variant_shape_view (variant.Tuple' m row) = spec.tuple_variant (shapes_view row)
-  variant_shape_view (variant.Struct' names m row) = spec.struct_variant names (shapes_view row)
-  variant_shape_view (variant.Strict' names m row) = spec.strict_variant names (shapes_view row)
-  variant_shape_view (variant.Loose' names m row) = spec.loose_variant names (shapes_view row)
+  variant_shape_view (variant.Struct' names m row) = spec.struct_variant spec.exact names (shapes_view row)
+  variant_shape_view (variant.Strict' names m row) = spec.struct_variant spec.strict names (shapes_view row)
+  variant_shape_view (variant.Loose' names m row) = spec.struct_variant spec.loose names (shapes_view row)
 
   pub payloads_view : {m : _} → Row_of-VariantShape m → spec.Payloads
   payloads_view end_of-VariantShape = spec.no_payloads
@@ -97,30 +91,10 @@ pair_view p = (data_view p.0, data_view p.1)
 abbrev pub lent_pair_view : Bor Data × Bor Data → spec.Data × spec.Data
 lent_pair_view p = (data_view p.0.now, data_view p.1.now)
 
--- the readers of shapes
-abbrev pub readers_of : List Shape → List (Source → Outcome spec.Data)
-readers_of all = map (λ a. first (shape_view a)) all
-
 -- names with the shapes at their places
-abbrev pub fields_at : List (List ℕ) → List Shape → List (Field Source)
-fields_at names all = fields_of names (spec.shapes_of (map shape_view all)) (readers_of all)
-
-abbrev pub fields_in : Fields → List (Field Source)
-fields_in f = fields_at f.names f.shapes.items
+abbrev pub fields_view : Fields → List (List ℕ × spec.Shape)
+fields_view f = paired shape_view f.names f.shapes.items
 
 -- names with the shapes of the payloads at their places
-abbrev pub payload_readers_of : List VariantShape → List ((Wanted → Offer) → Outcome spec.PayloadData)
-payload_readers_of all = map (λ v. visited_payload (variant_shape_view v)) all
-
-abbrev pub variants_at : List (List ℕ) → List VariantShape → List (Variant (Wanted → Offer))
-variants_at names all = variants_of names (payload_readers_of all)
-
-abbrev pub variants_in : Variants → List (Variant (Wanted → Offer))
-variants_in v = variants_at v.names v.shapes.items
-
--- what is in the slots of fields
-abbrev pub slot_view : Option Data → Option spec.Data
-slot_view slot = option_map data_view slot
-
-abbrev pub slots_view : Vec (Option Data) Global → List (Option spec.Data)
-slots_view slots = map slot_view slots.items
+abbrev pub variants_view : Variants → List (List ℕ × spec.PayloadShape)
+variants_view v = paired variant_shape_view v.names v.shapes.items

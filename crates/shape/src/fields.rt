@@ -1,7 +1,7 @@
 //! The fields of a struct.
 ghost use Rattle.std.specs.Prelude.{◌≡◌, ◌++◌, ◌∷◌, ◌==◌, [], length, OnOk, IfErr};
-ghost use Rattle.shape.specs.Fields.{place_of};
-ghost use Rattle.shape.specs.View.{fields_in};
+ghost use Rattle.shape.specs.Names.{place_of_name};
+ghost use Rattle.shape.specs.View.{fields_view};
 
 use crate::names::{place_among, push_both};
 use crate::shapes::{Fields, Shape};
@@ -32,16 +32,16 @@ impl Fields {
     }
 
     /// How many fields there are. Takes no memory.
-    #[tactic(auto, using(crate::proofs::Places::length_fields))]
+    #[tactic(auto, using(crate::proofs::Places::length_paired))]
     pub fn len(&self) -> usize
-        ensures { result ≡ length (fields_in self.now) }
+        ensures { result ≡ length (fields_view self.now) }
     {
         self.names.len().min(self.shapes.len())
     }
 
     /// Whether there is no field. Takes no memory.
     pub fn is_empty(&self) -> bool
-        ensures { result ≡ (length (fields_in self.now) == 0) }
+        ensures { result ≡ (length (fields_view self.now) == 0) }
     {
         self.len() == 0
     }
@@ -62,7 +62,7 @@ impl Fields {
 
     /// The place of the first field of a name, counted from 0. Takes no memory.
     pub fn find(&self, name: &str) -> Option<usize>
-        ensures { result ≡ place_of name.now (fields_in self.now) }
+        ensures { result ≡ place_of_name name.now (fields_view self.now) }
     {
         place_among(&self.names, self.shapes.len(), name)
     }

@@ -1,21 +1,14 @@
-//! Readers of data whose shape is known only as the program runs.
+//! Shapes, which say what is to be read, and the data that is read by them.
 #![tactic(auto)]
 
 mod data;
-mod entries;
-mod enums;
 mod fields;
 mod iter;
 mod map;
 mod names;
 mod order;
 mod parts;
-mod reader;
-mod rows;
-mod scalars;
-mod seed;
 mod shapes;
-mod structs;
 mod traits;
 mod variants;
 mod version;
@@ -23,7 +16,5 @@ mod version;
 pub use data::{Data, DataHeld, DataItems, DataMap, Payload};
 pub use iter::DataMapIter;
 pub use map::DataUnplaced;
-pub use reader::{hint, visit};
-pub use seed::ShapeSeed;
 pub use shapes::{Fields, MapShape, Shape, VariantShape, Variants};
 pub use version::upgrade;

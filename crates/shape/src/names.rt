@@ -1,6 +1,6 @@
 //! Names beside what they name: the fields of a struct, the variants of an enum.
 ghost use Rattle.std.specs.Prelude.{◌≡◌, ◌++◌, ◌∷◌, [], take, OnOk, IfErr};
-ghost use Rattle.shape.specs.Fields.{place_in};
+ghost use Rattle.shape.specs.Names.{place_in};
 
 use data_core::{Names, Text};
 

@@ -1,7 +1,7 @@
 //! The variants of an enum.
 ghost use Rattle.std.specs.Prelude.{◌≡◌, ◌++◌, ◌∷◌, ◌==◌, [], length, OnOk, IfErr};
-ghost use Rattle.shape.specs.Variants.{place_of_variant};
-ghost use Rattle.shape.specs.View.{variants_in};
+ghost use Rattle.shape.specs.Names.{place_of_name};
+ghost use Rattle.shape.specs.View.{variants_view};
 
 use crate::names::{place_among, push_both};
 use crate::shapes::{VariantShape, Variants};
@@ -32,16 +32,16 @@ impl Variants {
     }
 
     /// How many variants there are. Takes no memory.
-    #[tactic(auto, using(crate::proofs::Places::length_variants))]
+    #[tactic(auto, using(crate::proofs::Places::length_paired))]
     pub fn len(&self) -> usize
-        ensures { result ≡ length (variants_in self.now) }
+        ensures { result ≡ length (variants_view self.now) }
     {
         self.names.len().min(self.shapes.len())
     }
 
     /// Whether there is no variant. Takes no memory.
     pub fn is_empty(&self) -> bool
-        ensures { result ≡ (length (variants_in self.now) == 0) }
+        ensures { result ≡ (length (variants_view self.now) == 0) }
     {
         self.len() == 0
     }
@@ -62,7 +62,7 @@ impl Variants {
 
     /// The place of the first variant of a name, counted from 0. Takes no memory.
     pub fn find(&self, name: &str) -> Option<usize>
-        ensures { result ≡ place_of_variant name.now (variants_in self.now) }
+        ensures { result ≡ place_of_name name.now (variants_view self.now) }
     {
         place_among(&self.names, self.shapes.len(), name)
     }

@@ -16,6 +16,20 @@ pub fn upgrade(shape: Shape) -> Shape
     ensures { shape_view result ≡ upgraded (shape_view shape) }
 {
     match shape {
+        Shape::Bool => Shape::Bool,
+        Shape::U8 => Shape::U8,
+        Shape::U16 => Shape::U16,
+        Shape::U32 => Shape::U32,
+        Shape::U64 => Shape::U64,
+        Shape::I8 => Shape::I8,
+        Shape::I16 => Shape::I16,
+        Shape::I32 => Shape::I32,
+        Shape::I64 => Shape::I64,
+        Shape::Char => Shape::Char,
+        Shape::Text => Shape::Text,
+        Shape::Bytes => Shape::Bytes,
+        Shape::Unit => Shape::Unit,
+        Shape::UnitStruct(name) => Shape::UnitStruct(name),
         Shape::Option(inner) => Shape::Option(upgrade_inner(inner)),
         Shape::Seq(inner) => Shape::Seq(upgrade_inner(inner)),
         Shape::Tuple(shapes) => Shape::Prefix(upgrade_all(shapes)),
@@ -28,7 +42,6 @@ pub fn upgrade(shape: Shape) -> Shape
         Shape::Strict(name, fields) => Shape::Strict(name, upgrade_fields(fields)),
         Shape::Loose(name, fields) => Shape::Loose(name, upgrade_fields(fields)),
         Shape::Enum(name, variants) => Shape::Enum(name, upgrade_variants(variants)),
-        other => other,
     }
 }
 

@@ -1,6 +1,7 @@
 use Rattle.std.proofs.Common.{◌≡◌, ◌∙◌, length, take, ap, arith}
-use Rattle.shape.specs.Fields.{place_in}
-use Rattle.shape.proofs.Places.{names_of_variants}
+use Rattle.shape.specs.Names.{place_in}
+use Rattle.shape.specs.View.{variant_shape_view}
+use Rattle.shape.proofs.Places.{names_of_paired}
 use Rattle.shape.proofs.shapes.Variants.find.Goals as goal
 
 pub returns : goal.returns
@@ -8,4 +9,4 @@ returns c =
     let variants = c.args.self.now in
     let all = variants.shapes.items in
     let number : c.len.result ≡ length all = omega (arith, variants.shapes.ok.0, c.len.ensures) in
-    c.place_among.ensures ∙ ap (λ n. place_in c.args.name.now (take n variants.names)) number ∙ ap (place_in c.args.name.now) (names_of_variants variants.names all)
+    c.place_among.ensures ∙ ap (λ n. place_in c.args.name.now (take n variants.names)) number ∙ ap (place_in c.args.name.now) (names_of_paired variant_shape_view variants.names all)

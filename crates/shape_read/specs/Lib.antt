@@ -1,0 +1,11 @@
+pub mod Scalars
+pub mod Parts
+pub mod Fields
+pub mod Variants
+pub mod First
+pub mod OfShape
+pub mod Readers
+pub mod Steps
+pub mod Refusals
+pub mod ShapeSeed
+pub mod Integer
