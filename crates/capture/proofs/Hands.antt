@@ -8,10 +8,10 @@ use Rattle.path_core.specs.declared.error.Error.{Error}
 use Rattle.data_core.specs.Node.{Node, of_node}
 use Rattle.data_core.specs.Source.{Source}
 use Rattle.shape.specs.Shape as spec
-use Rattle.shape.specs.First.{first}
-use Rattle.shape.specs.OfShape.{IsOf}
+use Rattle.shape_read.specs.First.{first}
+use Rattle.shape_read.specs.OfShape.{IsOf}
 use Rattle.shape.specs.View.{data_view}
-use Rattle.shape.proofs.OfShape.{first_is}
+use Rattle.shape_read.proofs.OfShape.{first_is}
 use Rattle.shape.specs.declared.data.Data.{Data}
 use Rattle.capture.specs.declared.reader.ReadError.{ReadError}
 use Rattle.capture.specs.declared.reader.ReadError.TheVariants.{Memory, Refused}

@@ -1,13 +1,4 @@
 pub mod Agreement
-pub mod SoleMember
-pub mod NamePairs
-pub mod TwoValues
-pub mod Elements
-pub mod Documents
-pub mod Printing
-pub mod NoFloat
 pub mod Streams
 pub mod Replies
 pub mod Hands
-pub mod Rows
-pub mod FieldViews

@@ -4,9 +4,9 @@ use Rattle.std.specs.Option.{IfSome, IsSomeAnd}
 use Rattle.byte_streams.specs.Outside.{with_front, with_more, IsAtEnd}
 use Rattle.data_core.specs.Outcome.{Outcome, given, refused}
 use Rattle.shape.specs.Shape.{Data}
-use Rattle.capture.specs.Document.{Document}
+use Rattle.document.specs.Document.{Document}
 use Rattle.capture.specs.Run.{outcome_of, line_of, IsReply, IsAnswer, Concludes, TookFront}
-use Rattle.capture.specs.Answer.{answer_of}
+use Rattle.capture.specs.Response.{response_of}
 use Rattle.capture.specs.Status.{status_of, OnAnswer, OnSilence}
 use Rattle.capture.specs.declared.status.Status.{Status}
 use Rattle.capture.specs.declared.status.Status.TheVariants.{Accepted, Refused, Usage, BadDocument, ReadFault, WriteFault, Memory, TooLong}
@@ -18,11 +18,11 @@ only_word (w ∷ []) word one first = cc
 only_word (w ∷ x ∷ words) word one first = absurd (omega arith)
 
 -- the document that an answer was made of
-pub answered_document : (found : Option Document) (status : Status) (text : List ℕ) → ◌≡◌ {A = Option (Status × List ℕ)} (Some (status, text)) (option_map answer_of found)
+pub answered_document : (found : Option Document) (status : Status) (text : List ℕ) → ◌≡◌ {A = Option (Status × List ℕ)} (Some (status, text)) (option_map response_of found)
     → (d : Document) × (found ≡ Some d) × (status ≡ status_of (outcome_of d)) × (text ≡ line_of d)
 answered_document None status text e = absurd (cc)
 answered_document (Some d) status text e =
-    let same : ◌≡◌ {A = Status × List ℕ} (status, text) (answer_of d) = ap (λ (o : Option (Status × List ℕ)). unwrap_or o (status, text)) e in
+    let same : ◌≡◌ {A = Status × List ℕ} (status, text) (response_of d) = ap (λ (o : Option (Status × List ℕ)). unwrap_or o (status, text)) e in
     (d, refl, ap (λ (p : Status × List ℕ). p.0) same, ap (λ (p : Status × List ℕ). p.1) same)
 
 pub status_replies : (o : Outcome Data) → IsReply (status_of o)
@@ -64,20 +64,20 @@ answers_more Memory P Q more p = tt
 answers_more TooLong P Q more p = tt
 
 -- a whole line that was taken answers the document
-pub line_answers : (found : Option Document) (status : Status) (text : List ℕ) (old new : Option (List ℕ)) → ◌≡◌ {A = Option (Status × List ℕ)} (Some (status, text)) (option_map answer_of found)
+pub line_answers : (found : Option Document) (status : Status) (text : List ℕ) (old new : Option (List ℕ)) → ◌≡◌ {A = Option (Status × List ℕ)} (Some (status, text)) (option_map response_of found)
     → new ≡ with_more old text → IsSomeAnd found (λ d. IsAnswer status d old new)
 line_answers found status text old new e taken =
     let d = answered_document found status text e in
     rw d.1 (d.2, rw d.3 at taken)
 
-pub line_concludes : (found : Option Document) (status : Status) (text : List ℕ) (old new : Option (List ℕ)) → ◌≡◌ {A = Option (Status × List ℕ)} (Some (status, text)) (option_map answer_of found)
+pub line_concludes : (found : Option Document) (status : Status) (text : List ℕ) (old new : Option (List ℕ)) → ◌≡◌ {A = Option (Status × List ℕ)} (Some (status, text)) (option_map response_of found)
     → new ≡ with_more old text → Concludes found status old new
 line_concludes found status text old new e taken =
     let d = answered_document found status text e in
     rw d.1 (d.2, rw d.3 at taken)
 
 -- a front of the line
-pub front_of_line : (found : Option Document) (status : Status) (text : List ℕ) (old new : Option (List ℕ)) → ◌≡◌ {A = Option (Status × List ℕ)} (Some (status, text)) (option_map answer_of found)
+pub front_of_line : (found : Option Document) (status : Status) (text : List ℕ) (old new : Option (List ℕ)) → ◌≡◌ {A = Option (Status × List ℕ)} (Some (status, text)) (option_map response_of found)
     → TookFront text old new → IsSomeAnd found (λ d. TookFront (line_of d) old new)
 front_of_line found status text old new e front =
     let d = answered_document found status text e in

@@ -1,12 +1,7 @@
-pub mod Input
+pub mod Parts
 pub mod FirstTree
 pub mod First
 pub mod Reads
-pub mod Words
-pub mod Document
-pub mod Line
 pub mod Status
 pub mod Run
-pub mod Answer
-pub mod LentShape
-pub mod FieldsView
+pub mod Response

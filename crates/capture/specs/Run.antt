@@ -3,9 +3,9 @@ use Rattle.std.specs.Prelude.{ℕ, ◌≡◌, ◌<◌, ◌≤◌, List, [], ◌�
 use Rattle.byte_streams.specs.Outside.{with_front, with_more}
 use Rattle.data_core.specs.Outcome.{Outcome}
 use Rattle.shape.specs.Shape.{Data}
-use Rattle.capture.specs.Document.{Document}
+use Rattle.document.specs.Document.{Document}
 use Rattle.capture.specs.First.{first}
-use Rattle.capture.specs.Line.{line}
+use Rattle.answer.specs.Line.{line}
 use Rattle.capture.specs.Status.{status_of}
 use Rattle.capture.specs.declared.status.Status.{Status}
 use Rattle.capture.specs.declared.status.Status.TheVariants.{Usage, BadDocument, ReadFault, TooLong}

@@ -1,22 +1,27 @@
 //! The command line.
 ghost use Rattle.std.specs.Prelude.{◌≡◌, ◌≢◌, ◌<◌, ◌≤◌, ◌↔◌, None, IfSome, IsSomeAnd, IsTrue, length};
 ghost use Rattle.byte_streams.specs.Outside.{IsAtEnd, HasFailed};
-ghost use Rattle.capture.specs.Document.{document};
-ghost use Rattle.capture.specs.Line.{line};
+ghost use Rattle.document.specs.Document.{document};
+ghost use Rattle.answer.specs.Line.{line};
 ghost use Rattle.capture.specs.Status.{OnAnswer, OnWholeStream, OnSilence};
 ghost use Rattle.capture.specs.Run.{IsCommand, most_bytes, TookMore, TookAtMost, line_of, IsAnswer, TookFront, Concludes, IsReply};
 
-use crate::answer::respond;
+use crate::response::respond;
 use crate::status::Status;
 use crate::stream::{StreamError, read_stream, write_line};
-use byte_streams::{Failed, ByteSink, ByteSource};
+use byte_streams::{ByteSink, ByteSource, Failed};
 use data_core::Names;
 use std::alloc::Global;
 
 /// Runs a command: `words` are the arguments behind the program's name. `read` reads a document
 /// from the source and writes the line of its answer to the sink. Want of memory may stand in the
 /// place of every status but `Usage`.
-pub fn run<S: ByteSource, O: ByteSink>(alloc: Global, words: &Names, source: &mut S, out: &mut O) -> Status
+pub fn run<S: ByteSource, O: ByteSink>(
+    alloc: Global,
+    words: &Names,
+    source: &mut S,
+    out: &mut O,
+) -> Status
     // The words are settled first, and nothing else happens where they are no command line.
     ensures usage { (result ≡ Status.Usage) ↔ ¬ IsCommand words.now }
     ensures untouched { result ≡ Status.Usage → (source.new ≡ source.old) × (out.new ≡ out.old) }

@@ -2,22 +2,23 @@
 ghost use Rattle.std.specs.Prelude.{◌≡◌, IfOk, IfErr};
 ghost use Rattle.data_core.specs.Outcome.{given};
 ghost use Rattle.path_core.specs.Error.{path_of, original_of};
-ghost use Rattle.shape.specs.First.{first as first_source};
-ghost use Rattle.shape.specs.OfShape.{IsOf};
+ghost use Rattle.shape_read.specs.First.{first as first_source};
+ghost use Rattle.shape_read.specs.OfShape.{IsOf};
 ghost use Rattle.shape.specs.View.{shape_view, data_view};
 ghost use Rattle.serde_value.specs.View.{node_view};
 ghost use Rattle.value_error.specs.ErrorView.{fault_of};
-ghost use Rattle.capture.specs.Input.{input_view};
+ghost use Rattle.document.specs.Input.{input_view};
 ghost use Rattle.capture.specs.First.{first};
 ghost use Rattle.capture.specs.FirstTree.{first_tree};
 ghost use Rattle.capture.specs.Reads.{Hands, HandsAny, Answers, IsRefusal, IsRefusalOf};
 
-use crate::input::Input;
 use data_core::{DeError, Deserializer, Fault, Path};
+use document::Input;
 use path_core::Error;
 use serde_path_to_error::deserialize_seed;
 use serde_value::{DeserializerError, Value, ValueDeserializer};
-use shape::{Data, Shape, ShapeSeed};
+use shape::{Data, Shape};
+use shape_read::ShapeSeed;
 use std::alloc::Global;
 
 /// Why an input was not read. It is this project's own.

@@ -3,7 +3,7 @@ ghost use Rattle.std.specs.Prelude.{◌≡◌, ◌≢◌, ◌<◌, ◌≤◌, []
 ghost use Rattle.byte_streams.specs.Outside.{with_front, with_more, IsAtEnd, HasFailed, Counts};
 ghost use Rattle.capture.specs.Run.{most_bytes, TookFront};
 
-use byte_streams::{Failed, ByteSink, ByteSource};
+use byte_streams::{ByteSink, ByteSource, Failed};
 
 /// The most bytes that a stream may have.
 const MOST_BYTES: usize = 16_777_216;

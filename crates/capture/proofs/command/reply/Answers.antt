@@ -1,6 +1,6 @@
 use Rattle.std.proofs.Common.{◌∙◌, string_bytes, sym, subst}
 use Rattle.std.specs.Option.{IsSomeAnd}
-use Rattle.capture.specs.Document.{document}
+use Rattle.document.specs.Document.{document}
 use Rattle.capture.specs.Run.{outcome_of, IsAnswer}
 use Rattle.capture.specs.Status.{OnAnswer}
 use Rattle.capture.proofs.Replies.{answered_document, line_answers, line_concludes, front_of_line, status_replies, status_bad, status_fault, status_answers, status_speaks}

@@ -1,7 +1,7 @@
 use Rattle.std.proofs.Common.{ℕ, List, ◌≢◌, ◌≤◌, length}
 use Rattle.std.specs.Option.{IfSome, IsSomeAnd}
 use Rattle.byte_streams.specs.Outside.{HasFailed}
-use Rattle.capture.specs.Document.{document}
+use Rattle.document.specs.Document.{document}
 use Rattle.capture.specs.Run.{most_bytes, IsAnswer, Concludes}
 use Rattle.capture.specs.declared.status.Status.TheVariants.{Memory}
 use Rattle.capture.proofs.Replies.{answers_more, whole_stream}

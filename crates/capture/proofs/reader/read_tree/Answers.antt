@@ -2,7 +2,7 @@ use Rattle.std.proofs.Common.{◌≡◌}
 use Rattle.data_core.specs.Node.{of_node}
 use Rattle.data_core.specs.Outcome.{given}
 use Rattle.path_core.specs.Error.{path_of, original_of}
-use Rattle.shape.specs.First.{first}
+use Rattle.shape_read.specs.First.{first}
 use Rattle.shape.specs.View.{shape_view, data_view}
 use Rattle.serde_value.specs.View.{node_view}
 use Rattle.value_error.specs.ErrorView.{fault_of}

@@ -1,7 +1,0 @@
-use Rattle.std.proofs.Common.{◌≡◌, drop}
-use Rattle.capture.specs.Line.{each, printed_segment}
-use Rattle.capture.proofs.Printing.{before}
-use Rattle.capture.proofs.line.print_path.Given as goal
-
-abbrev pub invariant-loop-segment : goal.invariant-loop-segment
-invariant-loop-segment l = each printed_segment l.path ≡ before l.items.items (each printed_segment (drop l.segment-index l.segment-items))
