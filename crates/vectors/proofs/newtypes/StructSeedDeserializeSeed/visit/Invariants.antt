@@ -1,6 +1,0 @@
-use Rattle.std.proofs.Common.{◌≡◌}
-use Rattle.data_core.specs.Tracking.{clear}
-use Rattle.vectors.proofs.newtypes.StructSeedDeserializeSeed.visit.Given as goal
-
-abbrev pub invariant-pairs : goal.invariant-pairs
-invariant-pairs g l = l.fn.track ≡ clear → l.track ≡ clear

@@ -1,7 +1,0 @@
-use Rattle.data_core.specs.Choice.{variant_segment}
-use Rattle.vectors.proofs.Steps.{told_payload}
-use Rattle.vectors.proofs.variants.no_payload.Goals as goal
-
-pub returns : goal.returns
-returns g c =
-    told_payload g.D.Error.DeError.fault g.D.Deserializer.tracks c.unit_variant.result (variant_segment (g.D.Deserializer.choice c.args.chosen.now).caught) _ c.args.track.now c.unit_variant.new.track c.unit_variant.ensures
