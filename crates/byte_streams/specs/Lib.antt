@@ -2,4 +2,5 @@ pub mod Outside
 pub mod SteadySource
 pub mod MemorySink
 pub mod Calls
+pub mod Course
 pub mod MemorySource

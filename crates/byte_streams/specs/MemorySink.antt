@@ -2,6 +2,7 @@
 use Rattle.std.specs.Prelude.{ℕ, ◌-◌, ◌==◌, ◌&&◌, ◌||◌, Bool, not, List, length, min}
 use Rattle.byte_streams.specs.declared.sink.MemorySink.{MemorySink}
 use Rattle.byte_streams.specs.declared.calls.Calls.{Calls}
+use Rattle.byte_streams.specs.declared.course.Course.{Course}
 use Rattle.byte_streams.specs.Calls.{fails_next}
 
 abbrev pub bytes_of : MemorySink → List ℕ
@@ -15,6 +16,9 @@ step_of m = m.step
 
 abbrev pub calls_of : MemorySink → Calls
 calls_of m = m.calls
+
+abbrev pub course_of : MemorySink → Course
+course_of m = m.course
 
 abbrev pub free_of : MemorySink → ℕ
 free_of m = room_of m - length (bytes_of m)

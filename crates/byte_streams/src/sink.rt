@@ -1,18 +1,26 @@
 //! Streams of bytes to the outside.
 ghost use Rattle.std.specs.Prelude.{◌≡◌, ℕ, ◌<◌, ◌≤◌, List, [], ◌++◌, Option, Some, IfOk, OnErr, is_err, length, take, vec_len, vec_capacity};
+ghost use Rattle.byte_streams.specs.Course.{Called, is_empty};
 ghost use Rattle.byte_streams.specs.Outside.{with_more, Counts};
 
 use crate::calls::Calls;
+use crate::course::Course;
 use crate::source::Failed;
 use std::alloc::{AllocError, Global};
 
 /// A stream of bytes that go to the outside, as standard output.
 pub trait ByteSink: Drop {
+    ghost use Rattle.std.specs.Prelude.{None};
+    ghost use Rattle.byte_streams.specs.declared.course.Course.{Course as CourseOf};
+
     // The bytes that it took, where a kind tells.
     ghost taken: { Self → Option (List ℕ) };
 
     // How often it failed, a count that never falls.
     ghost faults: { Self → ℕ };
+
+    // Whether it failed, and how many calls came after that or with an empty piece, where a kind tells.
+    ghost course: { Self → Option CourseOf } = { λ _. None };
 
     /// Takes bytes from the front of a piece, and says how many: none only where the piece is empty.
     fn write(&mut self, from: &[u8]) -> Result<usize, Failed>
@@ -21,7 +29,8 @@ pub trait ByteSink: Drop {
         ensures taken { IfOk result (λ n. taken self.new ≡ with_more (taken self.old) (take n from.now)) }
         ensures failed { OnErr result (taken self.new ≡ taken self.old) }
         ensures counts { Counts result (faults self.old) (faults self.new) }
-        ensures never_falls { faults self.old ≤ faults self.new };
+        ensures never_falls { faults self.old ≤ faults self.new }
+        ensures course { Called (is_empty from.now) (is_err result) (course self.old) (course self.new) };
 }
 
 /// A sink in memory, of a fixed room. It takes at most `step` bytes in a call, and fails at the
@@ -33,14 +42,16 @@ pub struct MemorySink {
     room: usize,
     step: usize,
     calls: Calls,
+    course: Course,
     ghost moves: { 0 < step },
     ghost within: { vec_len taken ≤ room },
     ghost reserved: { room ≤ vec_capacity taken },
 }
 
 impl MemorySink {
-    ghost use Rattle.byte_streams.specs.MemorySink.{bytes_of, room_of, step_of, calls_of};
+    ghost use Rattle.byte_streams.specs.MemorySink.{bytes_of, room_of, step_of, calls_of, course_of};
     ghost use Rattle.byte_streams.specs.Calls.{made_of, failed_of, fails_of};
+    ghost use Rattle.byte_streams.specs.Course.{IsBegun};
 
     /// An empty sink. Its whole room is taken at once.
     pub fn new(
@@ -56,6 +67,7 @@ impl MemorySink {
         ensures fails { IfOk result (λ m. fails_of (calls_of m) ≡ fails.now) }
         ensures no_call { IfOk result (λ m. made_of (calls_of m) ≡ 0) }
         ensures no_fault { IfOk result (λ m. failed_of (calls_of m) ≡ 0) }
+        ensures begun { IfOk result (λ m. IsBegun (course_of m)) }
     {
         let taken = Vec::with_capacity(alloc, room)?;
         let calls = Calls::new(alloc, fails)?;
@@ -64,6 +76,7 @@ impl MemorySink {
             room,
             step,
             calls,
+            course: Course::new(),
         })
     }
 
@@ -77,12 +90,14 @@ impl MemorySink {
 
 impl ByteSink for MemorySink {
     ghost use Rattle.std.specs.Prelude.{◌+◌};
-    ghost use Rattle.byte_streams.specs.MemorySink.{bytes_of, room_of, step_of, calls_of, refuses, most};
+    ghost use Rattle.byte_streams.specs.MemorySink.{bytes_of, room_of, step_of, calls_of, course_of, refuses, most};
     ghost use Rattle.byte_streams.specs.Calls.{failed_of, fails_of, made_of, next_number, next_failed};
 
     ghost taken = { λ m. Some (bytes_of m) };
 
     ghost faults = { λ m. failed_of (calls_of m) };
+
+    ghost course = { λ m. Some (course_of m) };
 
     fn write(&mut self, from: &[u8]) -> Result<usize, Failed>
         ensures room { IfOk result (λ n. n ≤ length from.now) }
@@ -91,6 +106,7 @@ impl ByteSink for MemorySink {
         ensures failed { OnErr result (bytes_of self.new ≡ bytes_of self.old) }
         ensures counts { Counts result (failed_of (calls_of self.old)) (failed_of (calls_of self.new)) }
         ensures never_falls { failed_of (calls_of self.old) ≤ failed_of (calls_of self.new) }
+        ensures course { Called (is_empty from.now) (is_err result) (Some (course_of self.old)) (Some (course_of self.new)) }
 
         // Exactly when it fails, how much it takes, and what stays.
         ensures refuses { is_err result ≡ refuses self.old from.now }
@@ -101,8 +117,10 @@ impl ByteSink for MemorySink {
         ensures room_stays { room_of self.new ≡ room_of self.old }
         ensures step_stays { step_of self.new ≡ step_of self.old }
     {
+        self.course.call(from.is_empty());
         let free = self.room - self.taken.len();
         if self.calls.begin() || (free == 0 && !from.is_empty()) {
+            self.course.end();
             return Err(self.calls.fail());
         }
         let n = self.step.min(free).min(from.len());

@@ -1,8 +1,10 @@
 //! Streams of bytes from the outside.
-ghost use Rattle.std.specs.Prelude.{◌≡◌, ℕ, ◌<◌, ◌≤◌, List, [], ◌++◌, Option, Some, IfOk, IsOk, OnErr, is_err, length, take, vec_len};
+ghost use Rattle.std.specs.Prelude.{◌≡◌, ℕ, ◌<◌, ◌≤◌, List, [], ◌++◌, Option, Some, None, false, IfOk, IsOk, OnErr, is_err, length, take, vec_len};
+ghost use Rattle.byte_streams.specs.Course.{Called, ends_source};
 ghost use Rattle.byte_streams.specs.Outside.{with_front, IsAtEnd, Counts};
 
 use crate::calls::Calls;
+use crate::course::Course;
 use std::alloc::{AllocError, Global};
 
 /// A call of the outside failed. What it was to do has not happened.
@@ -11,11 +13,16 @@ pub struct Failed;
 
 /// A stream of bytes that come from the outside, as standard input.
 pub trait ByteSource: Drop {
+    ghost use Rattle.byte_streams.specs.declared.course.Course.{Course as CourseOf};
+
     // The bytes that it still gives, where a kind tells.
     ghost left: { Self → Option (List ℕ) };
 
     // How often it failed, a count that never falls.
     ghost faults: { Self → ℕ };
+
+    // Whether it gave its end or failed, and how many calls came after that, where a kind tells.
+    ghost course: { Self → Option CourseOf } = { λ _. None };
 
     /// Puts the next bytes at the front of `into`, and says how many: none only where there is no
     /// room or the stream has ended.
@@ -25,7 +32,8 @@ pub trait ByteSource: Drop {
         ensures end { IfOk result (λ n. n ≡ 0 → 0 < length into.old → IsAtEnd (left self.new)) }
         ensures failed { OnErr result (left self.new ≡ left self.old) }
         ensures counts { Counts result (faults self.old) (faults self.new) }
-        ensures never_falls { faults self.old ≤ faults self.new };
+        ensures never_falls { faults self.old ≤ faults self.new }
+        ensures course { Called false (ends_source (length into.old) result) (course self.old) (course self.new) };
 }
 
 /// Bytes in memory as a source that never fails. It gives at most `step` bytes in a call.
@@ -83,12 +91,14 @@ impl ByteSource for SteadySource {
 pub struct MemorySource {
     steady: SteadySource,
     calls: Calls,
+    course: Course,
 }
 
 impl MemorySource {
-    ghost use Rattle.byte_streams.specs.MemorySource.{steady_of, calls_of};
+    ghost use Rattle.byte_streams.specs.MemorySource.{steady_of, calls_of, course_of};
     ghost use Rattle.byte_streams.specs.SteadySource.{left_of, step_of};
     ghost use Rattle.byte_streams.specs.Calls.{made_of, failed_of, fails_of};
+    ghost use Rattle.byte_streams.specs.Course.{IsBegun};
 
     /// A source that gives these bytes, at most `step` in a call.
     pub fn new(
@@ -103,21 +113,28 @@ impl MemorySource {
         ensures fails { IfOk result (λ m. fails_of (calls_of m) ≡ fails.now) }
         ensures no_call { IfOk result (λ m. made_of (calls_of m) ≡ 0) }
         ensures no_fault { IfOk result (λ m. failed_of (calls_of m) ≡ 0) }
+        ensures begun { IfOk result (λ m. IsBegun (course_of m)) }
     {
         let steady = SteadySource::new(alloc, bytes, step)?;
         let calls = Calls::new(alloc, fails)?;
-        Ok(MemorySource { steady, calls })
+        Ok(MemorySource {
+            steady,
+            calls,
+            course: Course::new(),
+        })
     }
 }
 
 impl ByteSource for MemorySource {
-    ghost use Rattle.byte_streams.specs.MemorySource.{steady_of, calls_of};
+    ghost use Rattle.byte_streams.specs.MemorySource.{steady_of, calls_of, course_of};
     ghost use Rattle.byte_streams.specs.SteadySource.{left_of, step_of, most};
     ghost use Rattle.byte_streams.specs.Calls.{made_of, failed_of, fails_of, next_number, next_failed, fails_next};
 
     ghost left = { λ m. Some (left_of (steady_of m)) };
 
     ghost faults = { λ m. failed_of (calls_of m) };
+
+    ghost course = { λ m. Some (course_of m) };
 
     fn read(&mut self, into: &mut [u8]) -> Result<usize, Failed>
         ensures room { IfOk result (λ n. n ≤ length into.old) }
@@ -126,8 +143,10 @@ impl ByteSource for MemorySource {
         ensures failed { OnErr result (left_of (steady_of self.new) ≡ left_of (steady_of self.old)) }
         ensures counts { Counts result (failed_of (calls_of self.old)) (failed_of (calls_of self.new)) }
         ensures never_falls { failed_of (calls_of self.old) ≤ failed_of (calls_of self.new) }
+        ensures course { Called false (ends_source (length into.old) result) (Some (course_of self.old)) (Some (course_of self.new)) }
 
         // Exactly when it fails, how much it gives, and what stays.
+        ensures untouched { OnErr result (into.new ≡ into.old) }
         ensures refuses { is_err result ≡ fails_next (calls_of self.old) }
         ensures most { IfOk result (λ n. n ≡ most (steady_of self.old) (length into.old)) }
         ensures call { made_of (calls_of self.new) ≡ next_number (calls_of self.old) }
@@ -135,9 +154,15 @@ impl ByteSource for MemorySource {
         ensures fails { fails_of (calls_of self.new) ≡ fails_of (calls_of self.old) }
         ensures step_stays { step_of (steady_of self.new) ≡ step_of (steady_of self.old) }
     {
+        self.course.call(false);
         if self.calls.begin() {
+            self.course.end();
             return Err(self.calls.fail());
         }
-        self.steady.read(into)
+        let n = self.steady.read(into)?;
+        if n == 0 && !into.is_empty() {
+            self.course.end();
+        }
+        Ok(n)
     }
 }

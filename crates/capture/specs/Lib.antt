@@ -1,6 +1,8 @@
 pub mod Parts
 pub mod FirstTree
+pub mod FirstVersion
 pub mod First
+pub mod ByName
 pub mod Reads
 pub mod Status
 pub mod Run

@@ -1,5 +1,6 @@
 //! The command line.
 ghost use Rattle.std.specs.Prelude.{◌≡◌, ◌≢◌, ◌<◌, ◌≤◌, ◌↔◌, None, IfSome, IsSomeAnd, IsTrue, length};
+ghost use Rattle.byte_streams.specs.Course.{Spared};
 ghost use Rattle.byte_streams.specs.Outside.{IsAtEnd, HasFailed};
 ghost use Rattle.document.specs.Document.{document};
 ghost use Rattle.answer.specs.Line.{line};
@@ -16,6 +17,7 @@ use std::alloc::Global;
 /// Runs a command: `words` are the arguments behind the program's name. `read` reads a document
 /// from the source and writes the line of its answer to the sink. Want of memory may stand in the
 /// place of every status but `Usage`.
+#[tactic(auto, using(crate::proofs::Courses::spared))]
 pub fn run<S: ByteSource, O: ByteSink>(
     alloc: Global,
     words: &Names,
@@ -28,7 +30,7 @@ pub fn run<S: ByteSource, O: ByteSink>(
 
     // A fault of the source is told exactly where there was one.
     ensures read_fault { result ≡ Status.ReadFault → HasFailed (S.faults source.old) (S.faults source.new) }
-    ensures read_failed { S.faults source.old < S.faults source.new → result ≢ Status.Memory → result ≡ Status.ReadFault }
+    ensures read_failed { S.faults source.old < S.faults source.new → result ≡ Status.ReadFault }
 
     // So is a stream that is too long.
     ensures too_long { result ≡ Status.TooLong → TookMore most_bytes (S.left source.old) (S.left source.new) }
@@ -46,10 +48,14 @@ pub fn run<S: ByteSource, O: ByteSink>(
 
     // A fault of the sink is told exactly where there was one, and leaves a front of the line.
     ensures write_fault { result ≡ Status.WriteFault → HasFailed (O.faults out.old) (O.faults out.new) }
-    ensures write_failed { O.faults out.old < O.faults out.new → result ≢ Status.Memory → result ≡ Status.WriteFault }
+    ensures write_failed { O.faults out.old < O.faults out.new → result ≡ Status.WriteFault }
     ensures front { result ≡ Status.WriteFault → IfSome (S.left source.old) (λ stream. IsSomeAnd (document stream)
         (λ d. TookFront (line_of d) (O.taken out.old) (O.taken out.new))) }
     ensures silent { OnSilence result (O.taken out.new ≡ O.taken out.old) }
+
+    // The source is called no more once it gave its end or failed, and the sink once it failed or took the line.
+    ensures source_spared { Spared (S.course source.old) (S.course source.new) }
+    ensures sink_spared { Spared (O.course out.old) (O.course out.new) }
 
     // Where nothing failed, each stream has its answer.
     ensures complete { IsCommand words.now → IfSome (S.left source.old) (λ stream. length stream ≤ most_bytes
@@ -79,6 +85,7 @@ fn is_read(words: &Names) -> bool
 }
 
 // Replies to a whole stream.
+#[tactic(auto, using(crate::proofs::Courses::spared))]
 fn reply<O: ByteSink>(alloc: Global, bytes: &[u8], out: &mut O) -> Status
     ensures kind { IsReply result }
     ensures bad_document { result ≡ Status.BadDocument → document bytes.now ≡ None }
@@ -89,6 +96,7 @@ fn reply<O: ByteSink>(alloc: Global, bytes: &[u8], out: &mut O) -> Status
     ensures front { result ≡ Status.WriteFault → IsSomeAnd (document bytes.now)
         (λ d. TookFront (line_of d) (O.taken out.old) (O.taken out.new)) }
     ensures silent { OnSilence result (O.taken out.new ≡ O.taken out.old) }
+    ensures spared { Spared (O.course out.old) (O.course out.new) }
     ensures complete { ¬ HasFailed (O.faults out.old) (O.faults out.new) → result ≢ Status.Memory
         → Concludes (document bytes.now) result (O.taken out.old) (O.taken out.new) }
 {

@@ -8,8 +8,12 @@ ghost use Rattle.shape.specs.View.{shape_view, data_view};
 ghost use Rattle.serde_value.specs.View.{node_view};
 ghost use Rattle.value_error.specs.ErrorView.{fault_of};
 ghost use Rattle.document.specs.Input.{input_view};
-ghost use Rattle.capture.specs.First.{first};
+ghost use Rattle.shape.specs.Shape as spec;
+ghost use Rattle.shape.specs.Upgraded.{upgraded};
+ghost use Rattle.document.specs.Input as input;
+ghost use Rattle.capture.specs.First.{first, first1, source_of};
 ghost use Rattle.capture.specs.FirstTree.{first_tree};
+ghost use Rattle.capture.specs.ByName.{ReadsByName};
 ghost use Rattle.capture.specs.Reads.{Hands, HandsAny, Answers, IsRefusal, IsRefusalOf};
 
 use data_core::{DeError, Deserializer, Fault, Path};
@@ -38,6 +42,10 @@ pub fn read(alloc: Global, shape: &Shape, input: Input) -> Result<Data, ReadErro
     ensures refusal { IfErr result (λ e. IsRefusal e (first (shape_view shape.now) (input_view input))) }
     ensures complete { Answers (first (shape_view shape.now) (input_view input)) result }
     ensures of_shape { IfOk result (λ d. IsOf (shape_view shape.now) (data_view d)) }
+    // Over a map, a struct has exactly the values that the pairs name.
+    ensures by_name { ReadsByName (shape_view shape.now) (input_view input) (λ d. first (shape_view shape.now) (input_view input) ≡ given d) }
+    // An upgraded shape reads as the shape did in the first version.
+    ensures first_version { (s : spec.Shape) → shape_view shape.now ≡ upgraded s → Answers (first1 s (input_view input)) result }
 {
     match input {
         Input::Tree(value) => read_tree(alloc, shape, value),
@@ -62,6 +70,8 @@ pub fn read_any<D: Deserializer>(
     d: D,
 ) -> Result<Data, Error<D::Error>>
     ensures answer { HandsAny D.Error.fault result (first_source (shape_view shape.now) (D.source d)) }
+    // Where the source is that of an input, the outcome is the first one of that input.
+    ensures of_input { (i : input.Input) → D.source d ≡ source_of i → HandsAny D.Error.fault result (first (shape_view shape.now) i) }
     ensures of_shape { IfOk result (λ d. IsOf (shape_view shape.now) (data_view d)) }
 {
     deserialize_seed(alloc, d, ShapeSeed::new(shape))

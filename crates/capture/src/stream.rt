@@ -1,5 +1,6 @@
 //! Whole streams: from a source, and into a sink.
 ghost use Rattle.std.specs.Prelude.{◌≡◌, ◌≢◌, ◌<◌, ◌≤◌, [], Err, IsErrOf, OnOk, OnErr, vec_len};
+ghost use Rattle.byte_streams.specs.Course.{Spared};
 ghost use Rattle.byte_streams.specs.Outside.{with_front, with_more, IsAtEnd, HasFailed, Counts};
 ghost use Rattle.capture.specs.Run.{most_bytes, TookFront};
 
@@ -30,6 +31,7 @@ pub fn read_stream<S: ByteSource>(source: &mut S, bytes: &mut Vec<u8>) -> Result
     ensures failed_short { IsErrOf result StreamError.ReadFault → vec_len bytes.new ≤ most_bytes }
     ensures too_long { IsErrOf result StreamError.TooLong → most_bytes < vec_len bytes.new }
     ensures faults { result ≢ Err StreamError.ReadFault → S.faults source.new ≡ S.faults source.old }
+    ensures spared { Spared (S.course source.old) (S.course source.new) }
 {
     let mut room = [0u8; ROOM];
     'reads: while bytes.len() <= MOST_BYTES {
@@ -52,6 +54,7 @@ pub fn write_line<O: ByteSink>(out: &mut O, line: &[u8]) -> Result<(), Failed>
     ensures front { OnErr result (TookFront line.now (O.taken out.old) (O.taken out.new)) }
     ensures counts { Counts result (O.faults out.old) (O.faults out.new) }
     ensures never_falls { O.faults out.old ≤ O.faults out.new }
+    ensures spared { Spared (O.course out.old) (O.course out.new) }
 {
     let mut at = 0;
     'writes: while at < line.len() {

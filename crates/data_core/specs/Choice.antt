@@ -1,5 +1,6 @@
--- A variant under way: what is offered for its payload, and the text of its name.
+-- A variant under way is what is offered for its payload.
 use Rattle.std.specs.Prelude.{ℕ, ◌≡◌, List, [], Option, Some, None}
+use Rattle.data_core.specs.declared.fault.Fault.TheVariants.{Custom}
 use Rattle.data_core.specs.declared.path.Segment.{Segment}
 use Rattle.data_core.specs.declared.path.Segment.TheVariants.{Enum, Unknown}
 use Rattle.data_core.specs.Ask.{Ask}
@@ -7,17 +8,12 @@ use Rattle.data_core.specs.Outcome.{Outcome, given, refused}
 use Rattle.data_core.specs.Wanted.{Wanted}
 use Rattle.data_core.specs.Source.{Source, Offer, scalar, newtype_struct, offer_of}
 use Rattle.data_core.specs.Source as offer
-use Rattle.data_core.specs.Table.{key_text}
+use Rattle.data_core.specs.Table.{offer_text}
+use Rattle.data_core.specs.Tracking.{Refusal}
 
-pub record Choice : Type 0 where
-  -- a call for a payload says nothing of what is offered after it
-  pub payload : Wanted → Offer
-  -- the text of the name, where one was caught; of a deserializer that does not track it tells nothing
-  pub caught : Option (List ℕ)
-
--- the same, with a text caught
-abbrev pub name_caught : Option (List ℕ) → Choice → Choice
-name_caught name c = record { payload = c.payload; caught = name }
+-- what is offered once the payload was taken
+abbrev pub spent : Wanted → Offer
+spent wants = offer.refused Custom
 
 -- the segment of a payload whose variant's name was caught as this text
 abbrev pub variant_segment : Option (List ℕ) → Segment
@@ -26,7 +22,7 @@ variant_segment (Some t) = Enum t
 
 -- the segment of a payload whose variant's name is read by this ask
 abbrev pub segment_of_variant : Ask → Source → Segment
-segment_of_variant a name = variant_segment (key_text (offer_of name a))
+segment_of_variant a name = variant_segment (offer_text (offer_of name a))
 
 -- the outcomes of a variant's name: its refusal is that of the enum itself
 abbrev pub IsName : {A : Type 0} → (Source → Outcome A → Type 0) → Source → Outcome A → Type 0
@@ -44,3 +40,8 @@ abbrev pub IsInside : {A : Type 0} → (Source → Outcome A → Type 0) → Off
 IsInside reads (newtype_struct inside) outcome = reads inside outcome
 IsInside reads (offer.refused f) outcome = outcome ≡ refused f []
 IsInside reads offered outcome = ⊥
+
+-- what the read of a newtype's payload leaves of a clear track is what the read of its inside does
+abbrev pub LeavesInside : (Source → Refusal → Type 0) → Offer → Refusal → Type 0
+LeavesInside leaves (newtype_struct inside) now = leaves inside now
+LeavesInside leaves offered now = ⊥

@@ -7,6 +7,7 @@ pub mod Source
 pub mod Sequence
 pub mod Table
 pub mod Choice
+pub mod Took
 pub mod Node
 pub mod Depth
 pub mod NodeCode
@@ -22,4 +23,5 @@ pub mod Outcome
 pub mod PathText
 pub mod KindName
 pub mod WordText
+pub mod UnexpectedText
 pub mod Reads

@@ -1,12 +1,14 @@
 //! Deserializers.
-ghost use Rattle.std.specs.Prelude.{◌≡◌, ◌≢◌, ◌-◌, true, false, IsTrue, OnOk, IfOk, IfSome, IsSome, Bool};
+ghost use Rattle.std.specs.Prelude.{ℕ, ◌≡◌, ◌≢◌, ◌-◌, true, IsTrue, OnOk, IfOk, IsSome, Bool, List, Option, None};
 ghost use Rattle.data_core.specs.Ask.{ask};
-ghost use Rattle.data_core.specs.Source.{Source, count, count_entries, offer_of, scalar, newtype_struct};
+ghost use Rattle.data_core.specs.Source.{Source, Offer, count, count_entries, offer_of, scalar, newtype_struct};
 ghost use Rattle.data_core.specs.Source as offer;
+ghost use Rattle.data_core.specs.Wanted.{Wanted};
 ghost use Rattle.data_core.specs.Wanted as wanted;
-ghost use Rattle.data_core.specs.Sequence.{Sequence, Takes, Ends, surplus};
-ghost use Rattle.data_core.specs.Table.{Table, TakesKey, TakesValue, Catches, key_text, with_caught, value_taken, entry_segment, surplus_entries};
-ghost use Rattle.data_core.specs.Choice.{Choice, name_caught, variant_segment};
+ghost use Rattle.data_core.specs.Took.{Took};
+ghost use Rattle.data_core.specs.Sequence.{Sequence, Takes, Ends, one_taken, told, surplus};
+ghost use Rattle.data_core.specs.Table.{Table, TakesKey, TakesValue, BeginsMap, Catches, offer_text, key_taken, value_taken, caught_after, entry_segment, surplus_entries};
+ghost use Rattle.data_core.specs.Choice.{spent, variant_segment};
 ghost use Rattle.data_core.specs.Show.{Shows, Begins, Hands, elements_of, entries_of};
 ghost use Rattle.data_core.specs.Tracking.{Leaves, LeavesKey, LeavesName, marked};
 ghost use Rattle.data_core.specs.declared.path.Segment.TheVariants as segment;
@@ -55,11 +57,14 @@ pub trait Deserializer: Drop {
     /// The entries of a map, under way.
     type Map: Drop;
 
-    /// A variant of an enum, whose payload was not taken yet.
+    /// A variant of an enum, under way.
     type Variant: Drop;
 
     // Whether it notes the path of a refusal.
     ghost tracks: { Bool };
+
+    // Whether what is read is in a form for people: serde's `is_human_readable`.
+    ghost human_readable: { Bool };
 
     ghost source: { Self → Source };
 
@@ -67,18 +72,30 @@ pub trait Deserializer: Drop {
 
     ghost table: { Self.Map → Table };
 
-    ghost choice: { Self.Variant → Choice };
+    // What is offered for the payload of a variant.
+    ghost choice: { Self.Variant → Wanted → Offer };
+
+    // The text that is caught of the key that was taken last, and of a variant's name. Of a
+    // deserializer that does not track they tell nothing.
+    ghost key_text: { Self.Map → Option (List ℕ) };
+
+    ghost name_text: { Self.Variant → Option (List ℕ) };
+
+    /// Whether the format is one that people read, and a type may show itself as a text in it:
+    /// serde's `is_human_readable`.
+    fn is_human_readable(&self) -> bool
+        ensures { result ≡ human_readable };
 
     /// What is there, for a reader that hopes for `hint`.
     fn show(self, hint: Hint<'_>) -> Result<Shown<Self>, Self::Error>
         ensures shows { Shows Self.Text.text Self.Bytes.bytes source sequence table choice Self.Error.fault result
             (offer_of (source self) (ask hint.entry)) }
-        ensures begins { IfOk result (Begins sequence table) };
+        ensures begins { IfOk result (Begins sequence table key_text name_text) };
 
     /// The next element, and none where none is left.
     fn next_element(seq: &mut Self::Seq) -> Result<Option<Self>, Self::Error>
-        ensures takes { Takes source Self.Error.fault result (sequence seq.old) (sequence seq.new) }
-        ensures checks { (sequence seq.new).checks ≡ (sequence seq.old).checks };
+        ensures takes { Takes source Self.Error.fault result (sequence seq.old).left (sequence seq.new).left }
+        ensures took { Took Self.Error.fault result (sequence seq.old) (one_taken (sequence seq.old)) (sequence seq.new) };
 
     /// The way out of the read of the element that was taken last. `before` says whether the track held
     /// a refusal before that read, and `failed` whether the read failed.
@@ -91,15 +108,15 @@ pub trait Deserializer: Drop {
         ensures path { Leaves Self.Error.fault tracks (segment.Seq ((sequence seq.old).taken - 1)) before failed
             track.old track.new result }
         ensures lost { tracks ≡ true → OnOk result (IsTrue failed → track.new ≢ marked) }
-        ensures sequence { OnOk result (sequence seq.new ≡ sequence seq.old) };
+        ensures sequence { sequence seq.new ≡ sequence seq.old };
 
     /// How many elements were taken. Takes no memory.
     fn elements_taken(seq: &Self::Seq) -> usize
         ensures { result ≡ (sequence seq.now).taken };
 
-    /// How many elements are left, where that is known. Takes no memory.
+    /// How many elements are left, where the sequence tells that. Takes no memory.
     fn elements_left(seq: &Self::Seq) -> Option<usize>
-        ensures { IfSome result (λ n. n ≡ count (sequence seq.now).left) };
+        ensures { result ≡ told (sequence seq.now).tells (count (sequence seq.now).left) };
 
     /// The end of a reader that may have left elements.
     fn end_seq(alloc: Global, seq: Self::Seq) -> Result<(), Self::Error>
@@ -109,17 +126,18 @@ pub trait Deserializer: Drop {
     /// The key of the next entry, and none where none is left. A value that waits is dropped.
     fn next_key(map: &mut Self::Map) -> Result<Option<Self>, Self::Error>
         ensures takes { TakesKey source Self.Error.fault result (table map.old) (table map.new) }
-        ensures checks { (table map.new).checks ≡ (table map.old).checks };
+        ensures took { Took Self.Error.fault result (table map.old) (key_taken (table map.old)) (table map.new) }
+        ensures caught { key_text map.new ≡ None };
 
     /// What the key that was taken last shows, for a reader that hopes for `hint`. A deserializer
     /// that tracks keeps the text of it, and forgets that of an earlier key first.
     fn show_key(map: &mut Self::Map, key: Self, hint: Hint<'_>) -> Result<Shown<Self>, Self::Error>
         ensures shows { Shows Self.Text.text Self.Bytes.bytes source sequence table choice Self.Error.fault result
             (offer_of (source key) (ask hint.entry)) }
-        ensures begins { IfOk result (Begins sequence table) }
-        ensures caught { tracks ≡ true → Catches Self.Error.fault result (table map.new).caught
-            (key_text (offer_of (source key) (ask hint.entry))) }
-        ensures table { table map.new ≡ with_caught (table map.new).caught (table map.old) };
+        ensures begins { IfOk result (Begins sequence table key_text name_text) }
+        ensures caught { tracks ≡ true → Catches Self.Error.fault result
+            (offer_text (offer_of (source key) (ask hint.entry))) (key_text map.new) }
+        ensures table { table map.new ≡ table map.old };
 
     /// The way out of the read of the key that was taken last, with `before` and `failed` as in
     /// `leave_element`. Where the read failed, the text of the key goes into the path.
@@ -129,17 +147,18 @@ pub trait Deserializer: Drop {
         failed: bool,
         track: &mut Track,
     ) -> Result<(), Self::Error>
-        ensures path { LeavesKey Self.Error.fault tracks (entry_segment (table map.old).caught) before failed
+        ensures path { LeavesKey Self.Error.fault tracks (entry_segment (key_text map.old)) before failed
             track.old track.new result }
         ensures lost { tracks ≡ true → OnOk result (IsTrue failed → track.new ≢ marked) }
-        ensures table { OnOk result (table map.new ≡ with_caught (table map.new).caught (table map.old)) }
-        ensures caught { OnOk result (failed ≡ false → (table map.new).caught ≡ (table map.old).caught) };
+        ensures table { table map.new ≡ table map.old }
+        ensures caught { tracks ≡ true → key_text map.new ≡ caught_after failed (key_text map.old) };
 
     /// The value that waits.
     fn next_value(map: &mut Self::Map) -> Result<Self, Self::Error>
         requires { IsSome (table map.old).waiting }
         ensures takes { TakesValue source Self.Error.fault result (table map.old).waiting }
-        ensures table { OnOk result (table map.new ≡ value_taken (table map.old)) };
+        ensures took { Took Self.Error.fault result (table map.old) (value_taken (table map.old)) (table map.new) }
+        ensures caught { key_text map.new ≡ key_text map.old };
 
     /// The way out of the read of the value that was taken last, with `before` and `failed` as in
     /// `leave_element`. The text of its key goes into the path of a refusal.
@@ -149,14 +168,15 @@ pub trait Deserializer: Drop {
         failed: bool,
         track: &mut Track,
     ) -> Result<(), Self::Error>
-        ensures path { Leaves Self.Error.fault tracks (entry_segment (table map.old).caught) before failed
+        ensures path { Leaves Self.Error.fault tracks (entry_segment (key_text map.old)) before failed
             track.old track.new result }
         ensures lost { tracks ≡ true → OnOk result (IsTrue failed → track.new ≢ marked) }
-        ensures table { OnOk result (table map.new ≡ with_caught (table map.new).caught (table map.old)) };
+        ensures table { table map.new ≡ table map.old }
+        ensures caught { key_text map.new ≡ None };
 
-    /// How many entries are left, where that is known. Takes no memory.
+    /// How many entries are left, where the map tells that. Takes no memory.
     fn entries_left(map: &Self::Map) -> Option<usize>
-        ensures { IfSome result (λ n. n ≡ count_entries (table map.now).left) };
+        ensures { result ≡ told (table map.now).tells (count_entries (table map.now).left) };
 
     /// The end of a reader that may have left entries.
     fn end_map(alloc: Global, map: Self::Map) -> Result<(), Self::Error>
@@ -172,10 +192,10 @@ pub trait Deserializer: Drop {
     ) -> Result<Shown<Self>, Self::Error>
         ensures shows { Shows Self.Text.text Self.Bytes.bytes source sequence table choice Self.Error.fault result
             (offer_of (source name) (ask hint.entry)) }
-        ensures begins { IfOk result (Begins sequence table) }
-        ensures caught { tracks ≡ true → Catches Self.Error.fault result (choice variant.new).caught
-            (key_text (offer_of (source name) (ask hint.entry))) }
-        ensures choice { choice variant.new ≡ name_caught (choice variant.new).caught (choice variant.old) };
+        ensures begins { IfOk result (Begins sequence table key_text name_text) }
+        ensures caught { tracks ≡ true → Catches Self.Error.fault result
+            (offer_text (offer_of (source name) (ask hint.entry))) (name_text variant.new) }
+        ensures choice { choice variant.new ≡ choice variant.old };
 
     /// The way out of the read of a variant's name, with `before` and `failed` as in `leave_element`.
     /// The refusal of a name is that of the enum itself.
@@ -187,17 +207,20 @@ pub trait Deserializer: Drop {
     ) -> Result<(), Self::Error>
         ensures path { LeavesName Self.Error.fault tracks before failed track.old track.new result }
         ensures lost { tracks ≡ true → OnOk result (IsTrue failed → track.new ≢ marked) }
-        ensures choice { OnOk result (choice variant.new ≡ choice variant.old) };
+        ensures choice { choice variant.new ≡ choice variant.old }
+        ensures caught { tracks ≡ true → name_text variant.new ≡ name_text variant.old };
 
     /// The end of a variant that is to have no payload.
     fn unit_variant(alloc: Global, variant: &mut Self::Variant) -> Result<(), Self::Error>
-        ensures hands { Hands (λ _. scalar offer.unit) Self.Error.fault result ((choice variant.old).payload wanted.unit) }
-        ensures caught { (choice variant.new).caught ≡ (choice variant.old).caught };
+        ensures hands { Hands (λ _. scalar offer.unit) Self.Error.fault result (choice variant.old wanted.unit) }
+        ensures taken { choice variant.new ≡ spent }
+        ensures caught { name_text variant.new ≡ name_text variant.old };
 
     /// The inside of a newtype variant.
     fn newtype_variant(alloc: Global, variant: &mut Self::Variant) -> Result<Self, Self::Error>
-        ensures hands { Hands (λ d. newtype_struct (source d)) Self.Error.fault result ((choice variant.old).payload wanted.newtype) }
-        ensures caught { (choice variant.new).caught ≡ (choice variant.old).caught };
+        ensures hands { Hands (λ d. newtype_struct (source d)) Self.Error.fault result (choice variant.old wanted.newtype) }
+        ensures taken { choice variant.new ≡ spent }
+        ensures caught { name_text variant.new ≡ name_text variant.old };
 
     /// The elements of a tuple variant that is to have `len` of them.
     fn tuple_variant(
@@ -206,9 +229,10 @@ pub trait Deserializer: Drop {
         len: usize,
     ) -> Result<Self::Seq, Self::Error>
         ensures hands { Hands (λ seq. elements_of (sequence seq)) Self.Error.fault result
-            ((choice variant.old).payload (wanted.tuple len)) }
+            (choice variant.old (wanted.tuple len)) }
         ensures begins { IfOk result (λ seq. (sequence seq).taken ≡ 0) }
-        ensures caught { (choice variant.new).caught ≡ (choice variant.old).caught };
+        ensures taken { choice variant.new ≡ spent }
+        ensures caught { name_text variant.new ≡ name_text variant.old };
 
     /// The entries of a struct variant that is to have these fields.
     fn struct_variant(
@@ -217,9 +241,10 @@ pub trait Deserializer: Drop {
         fields: &Names,
     ) -> Result<Self::Map, Self::Error>
         ensures hands { Hands (λ map. entries_of (table map)) Self.Error.fault result
-            ((choice variant.old).payload (wanted.struct fields.now)) }
-        ensures begins { IfOk result (λ map. (table map).taken ≡ 0) }
-        ensures caught { (choice variant.new).caught ≡ (choice variant.old).caught };
+            (choice variant.old (wanted.struct fields.now)) }
+        ensures begins { IfOk result (λ map. BeginsMap (table map) (key_text map)) }
+        ensures taken { choice variant.new ≡ spent }
+        ensures caught { name_text variant.new ≡ name_text variant.old };
 
     /// The way out of the read of a variant's payload, with `before` and `failed` as in
     /// `leave_element`. The text of the variant's name goes into the path of a refusal.
@@ -229,9 +254,11 @@ pub trait Deserializer: Drop {
         failed: bool,
         track: &mut Track,
     ) -> Result<(), Self::Error>
-        ensures path { Leaves Self.Error.fault tracks (variant_segment (choice variant.old).caught) before failed
+        ensures path { Leaves Self.Error.fault tracks (variant_segment (name_text variant.old)) before failed
             track.old track.new result }
-        ensures lost { tracks ≡ true → OnOk result (IsTrue failed → track.new ≢ marked) };
+        ensures lost { tracks ≡ true → OnOk result (IsTrue failed → track.new ≢ marked) }
+        ensures choice { choice variant.new ≡ choice variant.old }
+        ensures caught { name_text variant.new ≡ None };
 }
 
 /// What a deserializer shows: the visits of serde's `Visitor`, as one value.

@@ -1,9 +1,10 @@
 //! Reading of variants by readers that are at hand.
-ghost use Rattle.std.specs.Prelude.{◌≡◌, true, OnOk};
+ghost use Rattle.std.specs.Prelude.{◌≡◌, true, None, OnOk};
 ghost use Rattle.data_core.specs.Source.{offer_of};
 ghost use Rattle.data_core.specs.Wanted as wanted;
-ghost use Rattle.data_core.specs.Table.{Catches, key_text};
-ghost use Rattle.data_core.specs.Choice.{IsName, IsNothing, IsInside, name_caught, variant_segment};
+ghost use Rattle.data_core.specs.Table.{Catches, offer_text};
+ghost use Rattle.data_core.specs.Choice.{IsName, IsNothing, IsInside, LeavesInside, spent, variant_segment};
+ghost use Rattle.data_core.specs.Tracking.{Keeps, Notes, LeavesUnder, Swallows, clear};
 ghost use Rattle.data_core.specs.Outcome.{Among, IsUnder};
 ghost use Rattle.data_core.specs.declared.path.Segment.{Segment};
 
@@ -13,8 +14,9 @@ use crate::seed::DeserializeSeed;
 use crate::track::Track;
 use std::alloc::Global;
 
-/// Reads the name of a variant: serde's `EnumAccess::variant_seed`. `track` then holds the path of a
-/// refusal, if `D` tracks and no path was held before.
+/// Reads the name of a variant: serde's `EnumAccess::variant_seed`. Where `D` tracks and no path
+/// was held before, `track` then holds the path of a refusal of a reader that places its refusals,
+/// and some path of any other's.
 pub fn variant_seed<D: Deserializer, S: DeserializeSeed>(
     alloc: Global,
     variant: &mut D::Variant,
@@ -22,10 +24,14 @@ pub fn variant_seed<D: Deserializer, S: DeserializeSeed>(
     seed: S,
     track: &mut Track,
 ) -> Result<S::Value, D::Error>
-    ensures reads { Among D.Error.fault D.tracks result
+    ensures reads { Among D.Error.fault S.placed D.tracks result
         (IsName (λ source. S.reads seed (offer_of source (S.asks seed))) (D.source name)) track.old track.new }
-    ensures caught { D.tracks ≡ true → OnOk result ((D.choice variant.new).caught ≡ key_text (offer_of (D.source name) (S.asks seed))) }
-    ensures payload { OnOk result ((D.choice variant.new).payload ≡ (D.choice variant.old).payload) }
+    ensures keeps { Keeps D.Error.fault S.quiet D.tracks result track.old track.new }
+    ensures caught { D.tracks ≡ true → Catches D.Error.fault result (offer_text (offer_of (D.source name) (S.asks seed)))
+        (D.name_text variant.new) }
+    ensures choice { D.choice variant.new ≡ D.choice variant.old }
+    ensures notes { D.tracks ≡ true → Notes D.Error.fault result track.new }
+    ensures swallowed { D.tracks ≡ true → track.old ≡ clear → OnOk result (Swallows track.new) }
 {
     let before = track.holds();
     let value = visit_name(alloc, variant, name, seed, track);
@@ -41,27 +47,34 @@ fn visit_name<D: Deserializer, S: DeserializeSeed>(
     seed: S,
     track: &mut Track,
 ) -> Result<S::Value, D::Error>
-    ensures reads { Among D.Error.fault D.tracks result
+    ensures reads { Among D.Error.fault S.placed D.tracks result
         (S.reads seed (offer_of (D.source name) (S.asks seed))) track.old track.new }
-    ensures caught { D.tracks ≡ true → Catches D.Error.fault result (D.choice variant.new).caught
-        (key_text (offer_of (D.source name) (S.asks seed))) }
-    ensures choice { D.choice variant.new ≡ name_caught (D.choice variant.new).caught (D.choice variant.old) }
+    ensures keeps { Keeps D.Error.fault S.quiet D.tracks result track.old track.new }
+    ensures caught { D.tracks ≡ true → Catches D.Error.fault result (offer_text (offer_of (D.source name) (S.asks seed)))
+        (D.name_text variant.new) }
+    ensures choice { D.choice variant.new ≡ D.choice variant.old }
+    ensures leaves { D.tracks ≡ true → track.old ≡ clear → OnOk result
+        (S.leaves seed (offer_of (D.source name) (S.asks seed)) track.new) }
 {
     let shown = D::show_name(variant, name, seed.hint())?;
     seed.visit(alloc, shown, track)
 }
 
-/// The end of a variant that has no payload: serde's `VariantAccess::unit_variant`. `track` then holds
-/// the path of a refusal, if `D` tracks and no path was held before.
+/// The end of a variant that has no payload: serde's `VariantAccess::unit_variant`. Where `D`
+/// tracks and no path was held before, `track` then holds the path of a refusal.
 pub fn unit_variant<D: Deserializer>(
     alloc: Global,
     variant: &mut D::Variant,
     track: &mut Track,
 ) -> Result<(), D::Error>
-    ensures { (segment : Segment) → (D.tracks ≡ true → segment ≡ variant_segment (D.choice variant.old).caught)
-        → Among D.Error.fault D.tracks result
-        (IsUnder segment (IsNothing ((D.choice variant.old).payload wanted.unit)))
+    ensures reads { (segment : Segment) → (D.tracks ≡ true → segment ≡ variant_segment (D.name_text variant.old))
+        → Among D.Error.fault (Unit {0}) D.tracks result
+        (IsUnder segment (IsNothing (D.choice variant.old wanted.unit)))
         track.old track.new }
+    ensures keeps { Keeps D.Error.fault (Unit {0}) D.tracks result track.old track.new }
+    ensures taken { D.choice variant.new ≡ spent }
+    ensures caught { D.name_text variant.new ≡ None }
+    ensures notes { D.tracks ≡ true → Notes D.Error.fault result track.new }
 {
     let before = track.holds();
     let end = D::unit_variant(alloc, variant);
@@ -69,18 +82,26 @@ pub fn unit_variant<D: Deserializer>(
     end
 }
 
-/// Reads the inside of a newtype variant: serde's `VariantAccess::newtype_variant_seed`. `track` then
-/// holds the path of a refusal, if `D` tracks and no path was held before.
+/// Reads the inside of a newtype variant: serde's `VariantAccess::newtype_variant_seed`. Where `D`
+/// tracks and no path was held before, `track` then holds the path of a refusal of a reader that
+/// places its refusals, and some path of any other's.
 pub fn newtype_variant_seed<D: Deserializer, S: DeserializeSeed>(
     alloc: Global,
     variant: &mut D::Variant,
     seed: S,
     track: &mut Track,
 ) -> Result<S::Value, D::Error>
-    ensures { (segment : Segment) → (D.tracks ≡ true → segment ≡ variant_segment (D.choice variant.old).caught)
-        → Among D.Error.fault D.tracks result
-        (IsUnder segment (IsInside (λ source. S.reads seed (offer_of source (S.asks seed))) ((D.choice variant.old).payload wanted.newtype)))
+    ensures reads { (segment : Segment) → (D.tracks ≡ true → segment ≡ variant_segment (D.name_text variant.old))
+        → Among D.Error.fault S.placed D.tracks result
+        (IsUnder segment (IsInside (λ source. S.reads seed (offer_of source (S.asks seed))) (D.choice variant.old wanted.newtype)))
         track.old track.new }
+    ensures keeps { Keeps D.Error.fault S.quiet D.tracks result track.old track.new }
+    ensures taken { D.choice variant.new ≡ spent }
+    ensures caught { D.name_text variant.new ≡ None }
+    ensures notes { D.tracks ≡ true → Notes D.Error.fault result track.new }
+    ensures leaves { D.tracks ≡ true → track.old ≡ clear → OnOk result
+        (LeavesUnder (variant_segment (D.name_text variant.old))
+        (LeavesInside (λ source. S.leaves seed (offer_of source (S.asks seed))) (D.choice variant.old wanted.newtype)) track.new) }
 {
     let before = track.holds();
     let value = read_inside::<D, S>(alloc, variant, seed, track);
@@ -95,18 +116,22 @@ fn read_inside<D: Deserializer, S: DeserializeSeed>(
     seed: S,
     track: &mut Track,
 ) -> Result<S::Value, D::Error>
-    ensures reads { Among D.Error.fault D.tracks result
-        (IsInside (λ source. S.reads seed (offer_of source (S.asks seed))) ((D.choice variant.old).payload wanted.newtype))
+    ensures reads { Among D.Error.fault S.placed D.tracks result
+        (IsInside (λ source. S.reads seed (offer_of source (S.asks seed))) (D.choice variant.old wanted.newtype))
         track.old track.new }
-    ensures caught { (D.choice variant.new).caught ≡ (D.choice variant.old).caught }
+    ensures keeps { Keeps D.Error.fault S.quiet D.tracks result track.old track.new }
+    ensures taken { D.choice variant.new ≡ spent }
+    ensures caught { D.name_text variant.new ≡ D.name_text variant.old }
+    ensures leaves { D.tracks ≡ true → track.old ≡ clear → OnOk result
+        (LeavesInside (λ source. S.leaves seed (offer_of source (S.asks seed))) (D.choice variant.old wanted.newtype) track.new) }
 {
     let inside = D::newtype_variant(alloc, variant)?;
     seed.deserialize(alloc, inside, track)
 }
 
 /// Reads a tuple variant of `len` elements, whose elements `seed` is shown: serde's
-/// `VariantAccess::tuple_variant`. `track` then holds the path of a refusal, if `D` tracks and no path
-/// was held before.
+/// `VariantAccess::tuple_variant`. Where `D` tracks and no path was held before, `track` then holds
+/// the path of a refusal of a reader that places its refusals, and some path of any other's.
 pub fn tuple_variant<D: Deserializer, S: DeserializeSeed>(
     alloc: Global,
     variant: &mut D::Variant,
@@ -114,10 +139,17 @@ pub fn tuple_variant<D: Deserializer, S: DeserializeSeed>(
     seed: S,
     track: &mut Track,
 ) -> Result<S::Value, D::Error>
-    ensures { (segment : Segment) → (D.tracks ≡ true → segment ≡ variant_segment (D.choice variant.old).caught)
-        → Among D.Error.fault D.tracks result
-        (IsUnder segment (S.reads seed ((D.choice variant.old).payload (wanted.tuple len))))
+    ensures reads { (segment : Segment) → (D.tracks ≡ true → segment ≡ variant_segment (D.name_text variant.old))
+        → Among D.Error.fault S.placed D.tracks result
+        (IsUnder segment (S.reads seed (D.choice variant.old (wanted.tuple len))))
         track.old track.new }
+    ensures keeps { Keeps D.Error.fault S.quiet D.tracks result track.old track.new }
+    ensures taken { D.choice variant.new ≡ spent }
+    ensures caught { D.name_text variant.new ≡ None }
+    ensures notes { D.tracks ≡ true → Notes D.Error.fault result track.new }
+    ensures leaves { D.tracks ≡ true → track.old ≡ clear → OnOk result
+        (LeavesUnder (variant_segment (D.name_text variant.old)) (S.leaves seed (D.choice variant.old (wanted.tuple len)))
+        track.new) }
 {
     let before = track.holds();
     let value = visit_elements::<D, S>(alloc, variant, len, seed, track);
@@ -133,17 +165,21 @@ fn visit_elements<D: Deserializer, S: DeserializeSeed>(
     seed: S,
     track: &mut Track,
 ) -> Result<S::Value, D::Error>
-    ensures reads { Among D.Error.fault D.tracks result
-        (S.reads seed ((D.choice variant.old).payload (wanted.tuple len))) track.old track.new }
-    ensures caught { (D.choice variant.new).caught ≡ (D.choice variant.old).caught }
+    ensures reads { Among D.Error.fault S.placed D.tracks result
+        (S.reads seed (D.choice variant.old (wanted.tuple len))) track.old track.new }
+    ensures keeps { Keeps D.Error.fault S.quiet D.tracks result track.old track.new }
+    ensures taken { D.choice variant.new ≡ spent }
+    ensures caught { D.name_text variant.new ≡ D.name_text variant.old }
+    ensures leaves { D.tracks ≡ true → track.old ≡ clear → OnOk result
+        (S.leaves seed (D.choice variant.old (wanted.tuple len)) track.new) }
 {
     let seq = D::tuple_variant(alloc, variant, len)?;
     seed.visit::<D>(alloc, Shown::Seq(seq), track)
 }
 
 /// Reads a struct variant of these fields, whose entries `seed` is shown: serde's
-/// `VariantAccess::struct_variant`. `track` then holds the path of a refusal, if `D` tracks and no path
-/// was held before.
+/// `VariantAccess::struct_variant`. Where `D` tracks and no path was held before, `track` then
+/// holds the path of a refusal of a reader that places its refusals, and some path of any other's.
 pub fn struct_variant<D: Deserializer, S: DeserializeSeed>(
     alloc: Global,
     variant: &mut D::Variant,
@@ -151,10 +187,17 @@ pub fn struct_variant<D: Deserializer, S: DeserializeSeed>(
     seed: S,
     track: &mut Track,
 ) -> Result<S::Value, D::Error>
-    ensures { (segment : Segment) → (D.tracks ≡ true → segment ≡ variant_segment (D.choice variant.old).caught)
-        → Among D.Error.fault D.tracks result
-        (IsUnder segment (S.reads seed ((D.choice variant.old).payload (wanted.struct fields.now))))
+    ensures reads { (segment : Segment) → (D.tracks ≡ true → segment ≡ variant_segment (D.name_text variant.old))
+        → Among D.Error.fault S.placed D.tracks result
+        (IsUnder segment (S.reads seed (D.choice variant.old (wanted.struct fields.now))))
         track.old track.new }
+    ensures keeps { Keeps D.Error.fault S.quiet D.tracks result track.old track.new }
+    ensures taken { D.choice variant.new ≡ spent }
+    ensures caught { D.name_text variant.new ≡ None }
+    ensures notes { D.tracks ≡ true → Notes D.Error.fault result track.new }
+    ensures leaves { D.tracks ≡ true → track.old ≡ clear → OnOk result
+        (LeavesUnder (variant_segment (D.name_text variant.old))
+        (S.leaves seed (D.choice variant.old (wanted.struct fields.now))) track.new) }
 {
     let before = track.holds();
     let value = visit_fields::<D, S>(alloc, variant, fields, seed, track);
@@ -170,9 +213,13 @@ fn visit_fields<D: Deserializer, S: DeserializeSeed>(
     seed: S,
     track: &mut Track,
 ) -> Result<S::Value, D::Error>
-    ensures reads { Among D.Error.fault D.tracks result
-        (S.reads seed ((D.choice variant.old).payload (wanted.struct fields.now))) track.old track.new }
-    ensures caught { (D.choice variant.new).caught ≡ (D.choice variant.old).caught }
+    ensures reads { Among D.Error.fault S.placed D.tracks result
+        (S.reads seed (D.choice variant.old (wanted.struct fields.now))) track.old track.new }
+    ensures keeps { Keeps D.Error.fault S.quiet D.tracks result track.old track.new }
+    ensures taken { D.choice variant.new ≡ spent }
+    ensures caught { D.name_text variant.new ≡ D.name_text variant.old }
+    ensures leaves { D.tracks ≡ true → track.old ≡ clear → OnOk result
+        (S.leaves seed (D.choice variant.old (wanted.struct fields.now)) track.new) }
 {
     let map = D::struct_variant(alloc, variant, fields)?;
     seed.visit::<D>(alloc, Shown::Map(map), track)

@@ -1,11 +1,11 @@
 -- Items as the elements of a sequence.
-use Rattle.std.proofs.Common.{◌≡◌, ℕ, ◌+◌, ◌<◌, true, List, [], ◌∷◌, Option, Some, length, option_map, refl, ap, arith}
+use Rattle.std.proofs.Common.{◌≡◌, ℕ, ◌+◌, ◌<◌, true, List, [], ◌∷◌, Some, length, refl, ap, arith}
 use Rattle.data_core.specs.declared.fault.Fault.TheVariants.{InvalidLength}
-use Rattle.data_core.specs.Source.{Source, entry, count, count_entries}
+use Rattle.data_core.specs.Source.{Source, count, count_entries}
 use Rattle.data_core.specs.Sequence.{surplus}
 use Rattle.data_core.specs.Table.{surplus_entries}
 use Rattle.data_items.specs.Items.{sources_of}
-use Rattle.data_items.specs.PairSources.{left_over, pair_sources, pair_entries, TakesPair, taken_after_pair}
+use Rattle.data_items.specs.PairSources.{left_over, pair_sources, pair_entries}
 
 pub count_sources : {D : Type 0} (source : D → Source) (ds : List D) → count (sources_of source ds) ≡ length ds
 count_sources source [] = refl
@@ -35,10 +35,3 @@ count_pair_entries source (p ∷ ps) = let rest = count_pair_entries source ps i
 pub surplus_pair_entries : {D : Type 0} (source : D → Source) (taken : ℕ) (ps : List (D × D)) → surplus_entries true taken (pair_entries source ps) ≡ left_over taken ps
 surplus_pair_entries source taken [] = refl
 surplus_pair_entries source taken (p ∷ ps) = ap (λ n. Some (InvalidLength (taken + n))) (count_pair_entries source (p ∷ ps))
-
--- a pair that is taken is the next entry
-pub takes_pair : {D : Type 0} (source : D → Source) (key : D) (old new : List (D × D)) (waiting : Option D) (before taken : ℕ)
-    → TakesPair (Some key) old new waiting → taken ≡ taken_after_pair old before
-    → (v : Source) × (pair_entries source old ≡ entry (source key) v (pair_entries source new)) × (option_map source waiting ≡ Some v) × (taken ≡ before + 1)
-takes_pair source key old new waiting before taken h e =
-    (source h.0, ap (pair_entries source) h.1, ap (option_map source) h.2, rw h.1 at e)

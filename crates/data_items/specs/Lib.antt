@@ -4,4 +4,4 @@ pub mod Items
 pub mod Sequences
 pub mod PairSources
 pub mod MapSources
-pub mod Texts
+pub mod Plain

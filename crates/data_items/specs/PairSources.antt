@@ -1,9 +1,12 @@
 -- Pairs that are at hand, as the entries of a map or the elements of a sequence.
-use Rattle.std.specs.Prelude.{◌≡◌, ℕ, ◌+◌, ◌==◌, if◌then◌else◌, true, List, [], ◌∷◌, length, Option, Some, None}
+use Rattle.std.specs.Prelude.{ℕ, ◌+◌, ◌==◌, if◌then◌else◌, true, List, [], ◌∷◌, length, Option, Some, None, option_map}
 use Rattle.data_core.specs.declared.fault.Fault.{Fault}
 use Rattle.data_core.specs.declared.fault.Fault.TheVariants.{InvalidLength}
 use Rattle.data_core.specs.Ask.{Ask, seq, tuple}
 use Rattle.data_core.specs.Source.{Source, source, Offer, elements, entries, refused, Sources, end, more, Entries, no_entries, entry}
+use Rattle.data_core.specs.Table.{Table}
+use Rattle.data_items.specs.Waiting.{left_of, taken_of}
+use Rattle.data_items.specs.declared.waiting.Waiting.{Waiting}
 
 -- a pair is a sequence of its two parts, and a tuple of no other length
 abbrev pub pair_offer : Sources → Ask → Offer
@@ -28,16 +31,6 @@ abbrev pub left_over : {T : Type 0} → ℕ → List T → Option Fault
 left_over taken [] = None
 left_over taken (x ∷ xs) = Some (InvalidLength (taken + length (x ∷ xs)))
 
--- the next pair is taken: its key is handed out, and its value waits
-abbrev pub TakesPair : {D : Type 0} → Option D → List (D × D) → List (D × D) → Option D → Type 0
-TakesPair None old new waiting = (old ≡ []) × (new ≡ []) × (waiting ≡ None)
-TakesPair {D} (Some key) old new waiting =
-    (value : D) × (let both : D × D = (key, value) in old ≡ both ∷ new) × (waiting ≡ Some value)
-
-abbrev pub taken_after_pair : {D : Type 0} → List (D × D) → ℕ → ℕ
-taken_after_pair [] i = i
-taken_after_pair (p ∷ ps) i = i + 1
-
 module _ {D : Type 0} (sources : D → Source) where
   abbrev pub pair_of : D → D → Source
   pair_of first second = source (pair_offer (parts_of sources (Some first) (Some second)))
@@ -52,3 +45,13 @@ module _ {D : Type 0} (sources : D → Source) where
 
   abbrev pub pairs_source : List (D × D) → Source
   pairs_source ps = source (pairs_offer (pair_sources ps) (pair_entries ps))
+
+  -- the entries of pairs under way, and the value that waits; they tell how many are left
+  abbrev pub pairs_table : Waiting (D × D) → Option D → Table
+  pairs_table pairs value = record {
+    left = pair_entries (left_of pairs);
+    taken = taken_of pairs;
+    waiting = option_map sources value;
+    checks = true;
+    tells = true;
+  }

@@ -17,5 +17,5 @@ module _ {D E T B S M V : Type 0} where
 
   abbrev pub sequence_of : (D → Source) → (S → Sequence) → ElementsLevel D E T B S M V → Sequence
   sequence_of sources sequence (under_way.Whole items) =
-      record { left = sources_of sources (left_of items); taken = taken_of items; checks = true }
+      record { left = sources_of sources (left_of items); taken = taken_of items; checks = true; tells = true }
   sequence_of sources sequence (under_way.Part s) = sequence s

@@ -122,6 +122,9 @@ impl fmt::Display for Error {
 
     ghost output = { λ e. Some (error_text e) };
 
+    // Also under the options of a hole, as `{:#}`.
+    ghost styled_output = { λ e _. Some (error_text e) };
+
     fn fmt<W: fmt::Write>(&self, f: &mut fmt::Formatter<W>) -> fmt::Result {
         match self {
             Error::Fault { text, .. } => f.write_str(text.as_str()),

@@ -1,12 +1,11 @@
 //! Deserializers over pairs that are at hand.
-ghost use Rattle.std.specs.Prelude.{◌≡◌, ◌≤◌, ◌-◌, true, false, IfOk, MatchOption};
+ghost use Rattle.std.specs.Prelude.{◌≡◌, ◌≤◌, ◌-◌, true, false, None, Ok, IfOk, MatchOption};
 ghost use Rattle.data_core.specs.Ask.{ask};
 ghost use Rattle.data_core.specs.Source.{count, end, more, offer_of};
 ghost use Rattle.data_core.specs.Sequence.{Ends, surplus};
-ghost use Rattle.data_core.specs.Table.{surplus_entries};
+ghost use Rattle.data_core.specs.Table.{TakesKey, key_taken, surplus_entries};
 ghost use Rattle.data_core.specs.Show.{shown_offer, Shows, Begins};
-ghost use Rattle.data_items.specs.PairSources.{parts_of, pair_of, pairs_source, pair_entries, TakesPair, taken_after_pair};
-ghost use Rattle.data_items.specs.Waiting.{left_of, taken_of};
+ghost use Rattle.data_items.specs.PairSources.{parts_of, pair_of, pairs_source, pair_entries, pairs_table};
 
 use crate::ends::{end_of_items, wrong_length};
 use crate::part_variant::PartVariant;
@@ -80,6 +79,8 @@ impl<D: Deserializer> Deserializer for MapDeserializer<D> {
 
     ghost tracks = { false };
 
+    ghost human_readable = { true };
+
     ghost source = { λ d. source_of D.source d.level };
 
     ghost sequence = { λ s. sequence_of D.source D.sequence s.level };
@@ -87,6 +88,14 @@ impl<D: Deserializer> Deserializer for MapDeserializer<D> {
     ghost table = { λ m. table_of D.source D.table m.level };
 
     ghost choice = { λ v. D.choice v.variant };
+
+    ghost key_text = { λ _. None };
+
+    ghost name_text = { λ _. None };
+
+    fn is_human_readable(&self) -> bool {
+        true
+    }
 
     fn show(self, hint: Hint<'_>) -> Result<Shown<MapDeserializer<D>>, D::Error> {
         let alloc = self.alloc;
@@ -310,13 +319,11 @@ impl<D: Deserializer> MapDeserializer<D> {
 }
 
 impl<D: Deserializer> MapEntries<D> {
-    ghost use Rattle.std.specs.Prelude.{None};
-
     /// The entries of a deserializer over these pairs, for who takes them by hand. Takes no memory.
     pub fn new(alloc: Global, pairs: Vec<(D, D)>) -> MapEntries<D>
         requires { D.tracks ≡ false }
         ensures { ⟦<MapDeserializer<D> as Deserializer>⟧.table result
-            ≡ record { left = pair_entries D.source pairs.items; taken = 0; waiting = None; caught = None; checks = true } }
+            ≡ record { left = pair_entries D.source pairs.items; taken = 0; waiting = None; checks = true; tells = true } }
     {
         MapEntries {
             alloc,
@@ -335,9 +342,9 @@ impl<D: Deserializer> MapEntries<D> {
 }
 
 // The key of the next pair, whose value waits then.
-fn next_pair<D: Drop>(pairs: &mut Waiting<(D, D)>, waiting: &mut Option<D>) -> Option<D>
-    ensures pair { TakesPair result (left_of pairs.old) (left_of pairs.new) waiting.new }
-    ensures taken { taken_of pairs.new ≡ taken_after_pair (left_of pairs.old) (taken_of pairs.old) }
+fn next_pair<D: Deserializer>(pairs: &mut Waiting<(D, D)>, waiting: &mut Option<D>) -> Option<D>
+    ensures takes { TakesKey D.source D.Error.fault (Ok result) (pairs_table D.source pairs.old waiting.old) (pairs_table D.source pairs.new waiting.new) }
+    ensures took { pairs_table D.source pairs.new waiting.new ≡ key_taken (pairs_table D.source pairs.old waiting.old) }
 {
     match pairs.next() {
         Some((key, value)) => {
@@ -396,7 +403,8 @@ fn show_pairs<D: Deserializer>(
     ensures offer { shown_offer D.Text.text D.Bytes.bytes ⟦<MapDeserializer<D> as Deserializer>⟧.source
         ⟦<MapDeserializer<D> as Deserializer>⟧.sequence ⟦<MapDeserializer<D> as Deserializer>⟧.table ⟦<MapDeserializer<D> as Deserializer>⟧.choice result
         ≡ offer_of (pairs_source D.source pairs.items) (ask hint.entry) }
-    ensures begins { Begins ⟦<MapDeserializer<D> as Deserializer>⟧.sequence ⟦<MapDeserializer<D> as Deserializer>⟧.table result }
+    ensures begins { Begins ⟦<MapDeserializer<D> as Deserializer>⟧.sequence ⟦<MapDeserializer<D> as Deserializer>⟧.table
+        ⟦<MapDeserializer<D> as Deserializer>⟧.key_text ⟦<MapDeserializer<D> as Deserializer>⟧.name_text result }
 {
     let pairs = Waiting::new(pairs);
     match hint {
@@ -422,7 +430,8 @@ fn show_pair<D: Deserializer>(
     ensures shows { Shows D.Text.text D.Bytes.bytes ⟦<MapDeserializer<D> as Deserializer>⟧.source
         ⟦<MapDeserializer<D> as Deserializer>⟧.sequence ⟦<MapDeserializer<D> as Deserializer>⟧.table ⟦<MapDeserializer<D> as Deserializer>⟧.choice D.Error.fault result
         (offer_of (pair_of D.source first second) (ask hint.entry)) }
-    ensures begins { IfOk result (Begins ⟦<MapDeserializer<D> as Deserializer>⟧.sequence ⟦<MapDeserializer<D> as Deserializer>⟧.table) }
+    ensures begins { IfOk result (Begins ⟦<MapDeserializer<D> as Deserializer>⟧.sequence ⟦<MapDeserializer<D> as Deserializer>⟧.table
+        ⟦<MapDeserializer<D> as Deserializer>⟧.key_text ⟦<MapDeserializer<D> as Deserializer>⟧.name_text) }
 {
     match hint {
         Hint::Tuple(len) if len != 2 => Err(wrong_length(alloc, 2, len)),
@@ -439,8 +448,9 @@ fn show_part<D: Deserializer>(alloc: Global, shown: Shown<D>) -> Shown<MapDeseri
     ensures offer { shown_offer D.Text.text D.Bytes.bytes ⟦<MapDeserializer<D> as Deserializer>⟧.source
         ⟦<MapDeserializer<D> as Deserializer>⟧.sequence ⟦<MapDeserializer<D> as Deserializer>⟧.table ⟦<MapDeserializer<D> as Deserializer>⟧.choice result
         ≡ shown_offer D.Text.text D.Bytes.bytes D.source D.sequence D.table D.choice shown }
-    ensures begins { Begins D.sequence D.table shown
-        → Begins ⟦<MapDeserializer<D> as Deserializer>⟧.sequence ⟦<MapDeserializer<D> as Deserializer>⟧.table result }
+    ensures begins { Begins D.sequence D.table D.key_text D.name_text shown
+        → Begins ⟦<MapDeserializer<D> as Deserializer>⟧.sequence ⟦<MapDeserializer<D> as Deserializer>⟧.table
+        ⟦<MapDeserializer<D> as Deserializer>⟧.key_text ⟦<MapDeserializer<D> as Deserializer>⟧.name_text result }
 {
     match shown {
         Shown::Scalar(scalar) => Shown::Scalar(scalar),

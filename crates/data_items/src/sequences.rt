@@ -1,5 +1,5 @@
 //! Deserializers over items that are at hand.
-ghost use Rattle.std.specs.Prelude.{◌≡◌, true, false};
+ghost use Rattle.std.specs.Prelude.{◌≡◌, true, false, None};
 ghost use Rattle.data_core.specs.Show.{shown_offer, Begins};
 ghost use Rattle.data_core.specs.Source.{source, elements};
 ghost use Rattle.data_core.specs.Sequence.{Ends, surplus};
@@ -63,6 +63,8 @@ impl<D: Deserializer> Deserializer for SeqDeserializer<D> {
 
     ghost tracks = { false };
 
+    ghost human_readable = { true };
+
     ghost source = { λ d. source_of D.source d.level };
 
     ghost sequence = { λ s. sequence_of D.source D.sequence s.level };
@@ -70,6 +72,14 @@ impl<D: Deserializer> Deserializer for SeqDeserializer<D> {
     ghost table = { λ m. D.table m.map };
 
     ghost choice = { λ v. D.choice v.variant };
+
+    ghost key_text = { λ _. None };
+
+    ghost name_text = { λ _. None };
+
+    fn is_human_readable(&self) -> bool {
+        true
+    }
 
     fn show(self, hint: Hint<'_>) -> Result<Shown<SeqDeserializer<D>>, D::Error> {
         let level = self.level;
@@ -249,7 +259,8 @@ fn whole<D: Deserializer>(items: Vec<D>) -> Shown<SeqDeserializer<D>>
     ensures offer { shown_offer D.Text.text D.Bytes.bytes ⟦<SeqDeserializer<D> as Deserializer>⟧.source
         ⟦<SeqDeserializer<D> as Deserializer>⟧.sequence ⟦<SeqDeserializer<D> as Deserializer>⟧.table ⟦<SeqDeserializer<D> as Deserializer>⟧.choice result
         ≡ elements true (sources_of D.source items.items) }
-    ensures begins { Begins ⟦<SeqDeserializer<D> as Deserializer>⟧.sequence ⟦<SeqDeserializer<D> as Deserializer>⟧.table result }
+    ensures begins { Begins ⟦<SeqDeserializer<D> as Deserializer>⟧.sequence ⟦<SeqDeserializer<D> as Deserializer>⟧.table
+        ⟦<SeqDeserializer<D> as Deserializer>⟧.key_text ⟦<SeqDeserializer<D> as Deserializer>⟧.name_text result }
 {
     Shown::Seq(SeqElements {
         level: ElementsLevel::Whole(Waiting::new(items)),
@@ -262,8 +273,9 @@ fn part<D: Deserializer>(shown: Shown<D>) -> Shown<SeqDeserializer<D>>
     ensures offer { shown_offer D.Text.text D.Bytes.bytes ⟦<SeqDeserializer<D> as Deserializer>⟧.source
         ⟦<SeqDeserializer<D> as Deserializer>⟧.sequence ⟦<SeqDeserializer<D> as Deserializer>⟧.table ⟦<SeqDeserializer<D> as Deserializer>⟧.choice result
         ≡ shown_offer D.Text.text D.Bytes.bytes D.source D.sequence D.table D.choice shown }
-    ensures begins { Begins D.sequence D.table shown
-        → Begins ⟦<SeqDeserializer<D> as Deserializer>⟧.sequence ⟦<SeqDeserializer<D> as Deserializer>⟧.table result }
+    ensures begins { Begins D.sequence D.table D.key_text D.name_text shown
+        → Begins ⟦<SeqDeserializer<D> as Deserializer>⟧.sequence ⟦<SeqDeserializer<D> as Deserializer>⟧.table
+        ⟦<SeqDeserializer<D> as Deserializer>⟧.key_text ⟦<SeqDeserializer<D> as Deserializer>⟧.name_text result }
 {
     match shown {
         Shown::Scalar(scalar) => Shown::Scalar(scalar),
@@ -304,7 +316,7 @@ impl<D: Deserializer> SeqElements<D> {
     pub fn new(items: Vec<D>) -> SeqElements<D>
         requires { D.tracks ≡ false }
         ensures { ⟦<SeqDeserializer<D> as Deserializer>⟧.sequence result
-            ≡ record { left = sources_of D.source items.items; taken = 0; checks = true } }
+            ≡ record { left = sources_of D.source items.items; taken = 0; checks = true; tells = true } }
     {
         SeqElements {
             level: ElementsLevel::Whole(Waiting::new(items)),

@@ -11,12 +11,12 @@ use Rattle.data_core.specs.Outcome.{Outcome, given, refused, RefusedAmong}
 use Rattle.data_std.specs.Compound.{EachReads}
 
 -- a step's refusal is that of the whole that the step is taken in
-pub RefusedAmong-whole : {A B : Type 0} (tracks : Bool) (fault : Option Fault) (P : Outcome A → Type 0) (Q : Outcome B → Type 0) (old before new : Refusal)
-    → (old ≡ clear → before ≡ clear) → ((f : Fault) (path : List Segment) → P (refused f path) → Q (refused f path))
-    → RefusedAmong tracks fault P before new → RefusedAmong tracks fault Q old new
-RefusedAmong-whole tracks None P Q old before new clears carries h = tt
-RefusedAmong-whole tracks (Some f) P Q old before new clears carries h =
-    (h.0, carries f h.0 h.1, λ t c. h.2 t (clears c))
+pub RefusedAmong-whole : {A B : Type 0} (placed all : Type 0) (tracks : Bool) (fault : Option Fault) (P : Outcome A → Type 0) (Q : Outcome B → Type 0) (old before new : Refusal)
+    → (all → placed) → (all → old ≡ clear → before ≡ clear) → ((f : Fault) (path : List Segment) → P (refused f path) → Q (refused f path))
+    → RefusedAmong placed tracks fault P before new → RefusedAmong all tracks fault Q old new
+RefusedAmong-whole placed all tracks None P Q old before new of_all clears carries h = tt
+RefusedAmong-whole placed all tracks (Some f) P Q old before new of_all clears carries h =
+    (h.0, carries f h.0 h.1, λ q t c. h.2 (of_all q) t (clears q c))
 
 -- the outcome of what is left, after what was read before it
 abbrev pub after : {T : Type 0} → List T → Outcome (List T) → Outcome (List T)
@@ -51,12 +51,12 @@ pub after_end : {T : Type 0} (xs : List T) → after xs (given []) ≡ given xs
 after_end xs = ap given (append-nil xs)
 
 -- a refusal of what is left at an end, outside of every nested read
-RefusedAmong-here : {A : Type 0} (tracks : Bool) (fault : Option Fault) (f : Fault) (P : Outcome A → Type 0) (old new : Refusal)
-    → IsCalled fault f → P (refused f []) → (old ≡ clear → new ≡ clear) → RefusedAmong tracks fault P old new
-RefusedAmong-here tracks None f P old new h is clears = tt
-RefusedAmong-here tracks (Some g) f P old new h is clears = rw h ([], is, λ t c. rw (clears c) refl)
+RefusedAmong-here : {A : Type 0} (placed : Type 0) (tracks : Bool) (fault : Option Fault) (f : Fault) (P : Outcome A → Type 0) (old new : Refusal)
+    → IsCalled fault f → P (refused f []) → (placed → old ≡ clear → new ≡ clear) → RefusedAmong placed tracks fault P old new
+RefusedAmong-here placed tracks None f P old new h is clears = tt
+RefusedAmong-here placed tracks (Some g) f P old new h is clears = rw h ([], is, λ q t c. rw (clears q c) refl)
 
-pub RefusedAmong-end : {A E : Type 0} (fault : E → Option Fault) (e : E) (tracks : Bool) (left : Option Fault) (P : Outcome A → Type 0) (old new : Refusal)
-    → Ends fault (Err e) left → ((f : Fault) → left ≡ Some f → P (refused f [])) → (old ≡ clear → new ≡ clear) → RefusedAmong tracks (fault e) P old new
-RefusedAmong-end fault e tracks None P old new h is clears = rw h tt
-RefusedAmong-end fault e tracks (Some f) P old new h is clears = RefusedAmong-here tracks (fault e) f P old new h (is f refl) clears
+pub RefusedAmong-end : {A E : Type 0} (fault : E → Option Fault) (e : E) (placed : Type 0) (tracks : Bool) (left : Option Fault) (P : Outcome A → Type 0) (old new : Refusal)
+    → Ends fault (Err e) left → ((f : Fault) → left ≡ Some f → P (refused f [])) → (placed → old ≡ clear → new ≡ clear) → RefusedAmong placed tracks (fault e) P old new
+RefusedAmong-end fault e placed tracks None P old new h is clears = rw h tt
+RefusedAmong-end fault e placed tracks (Some f) P old new h is clears = RefusedAmong-here placed tracks (fault e) f P old new h (is f refl) clears

@@ -1,26 +1,15 @@
 -- The entries of a map, read one after the other.
-use Rattle.std.proofs.Common.{◌≡◌, ℕ, List, [], ◌∷◌, ◌++◌, Option, Some, None, refl, inl, inr}
+use Rattle.std.proofs.Common.{◌≡◌, List, [], ◌∷◌, ◌++◌, Some, None, refl, inl, inr}
 use Rattle.std.specs.declared.cmp.Ordering.{Ordering}
 use Rattle.std.specs.BTreeMap.{insert_entry}
 use Rattle.data_core.specs.declared.fault.Fault.{Fault}
 use Rattle.data_core.specs.declared.path.Segment.{Segment}
-use Rattle.data_core.specs.declared.path.Segment.TheVariants.{Unknown}
 use Rattle.data_core.specs.Ask.{Ask}
 use Rattle.data_core.specs.Source.{Source, Entries, no_entries, entry}
-use Rattle.data_core.specs.Table.{IsKey, IsValue, IsCaught, entry_segment, segment_of_key, rest_of_entries, value_of}
+use Rattle.data_core.specs.Table.{IsKey, IsValue, entry_segment, next_text, rest_of_entries, value_of}
 use Rattle.data_core.specs.Outcome.{Outcome, given, refused}
 use Rattle.data_std.specs.Pairs.{NextReads, EntriesRead, inserted}
 use Rattle.data_std.proofs.Elements.{after}
-
--- the segment of the next entry
-abbrev pub next_segment : Ask → Entries → Segment
-next_segment asks no_entries = Unknown
-next_segment asks (entry k v es) = segment_of_key asks k
-
-pub next_segment_caught : {K : Type 0} (asks : Ask) (key : Source → Outcome K → Type 0) (es : Entries) (x : K) (caught : Option (List ℕ))
-    → IsKey asks key es (given (Some x)) → IsCaught asks es caught → next_segment asks es ≡ entry_segment caught
-next_segment_caught asks key no_entries x caught read same = absurd (cc)
-next_segment_caught asks key (entry k v es) x caught read same = rw same refl
 
 -- the next entry, by its key and then its value
 pub NextReads-key : {K V : Type 0} (asks : Ask) (key : Source → Outcome K → Type 0) (value : Source → Outcome V → Type 0) (es : Entries) (f : Fault) (path : List Segment)
@@ -29,12 +18,12 @@ NextReads-key asks key value no_entries f path h = absurd (cc)
 NextReads-key asks key value (entry k v es) f path h = inl (inl h)
 
 pub NextReads-value : {K V : Type 0} (asks : Ask) (key : Source → Outcome K → Type 0) (value : Source → Outcome V → Type 0) (es : Entries) (x : K) (f : Fault) (path : List Segment)
-    → IsKey asks key es (given (Some x)) → IsValue (next_segment asks es) value (value_of es) (refused f path) → NextReads asks key value es (refused f path)
+    → IsKey asks key es (given (Some x)) → IsValue (entry_segment (next_text asks es)) value (value_of es) (refused f path) → NextReads asks key value es (refused f path)
 NextReads-value asks key value no_entries x f path read h = absurd h
 NextReads-value asks key value (entry k v es) x f path read h = inl (inr (x, read, inl h))
 
 pub NextReads-both : {K V : Type 0} (asks : Ask) (key : Source → Outcome K → Type 0) (value : Source → Outcome V → Type 0) (es : Entries) (x : K) (y : V)
-    → IsKey asks key es (given (Some x)) → IsValue (next_segment asks es) value (value_of es) (given y) → NextReads asks key value es (given (Some (x, y)))
+    → IsKey asks key es (given (Some x)) → IsValue (entry_segment (next_text asks es)) value (value_of es) (given y) → NextReads asks key value es (given (Some (x, y)))
 NextReads-both asks key value no_entries x y read h = absurd h
 NextReads-both asks key value (entry k v es) x y read h = inr ((x, y), inr (x, read, inr (y, h, refl)), refl)
 

@@ -11,7 +11,7 @@ use Rattle.data_std.specs.Ignored.{at_key}
 -- the refusal of a key, once its path is the entry's segment alone; the text counts only where the
 -- deserializer tracks
 IsRefused-left_key : {A : Type 0} (tracks before : Bool) (caught text : Option (List ℕ)) (fault : Option Fault) (o : Outcome A) (old mid new : Refusal)
-    → (IsTrue before ↔ (old ≢ clear)) → (tracks ≡ true → CatchesUnless fault caught text) → IsRefused tracks fault o old mid
+    → (IsTrue before ↔ (old ≢ clear)) → (tracks ≡ true → CatchesUnless fault text caught) → IsRefused tracks fault o old mid
     → new ≡ left_key tracks (entry_segment caught) before true mid → IsRefused tracks fault (at_key (entry_segment text) o) old new
 IsRefused-left_key tracks before caught text None o old mid new w same h e = tt
 IsRefused-left_key tracks before caught text (Some f) (given a) old mid new w same h e = absurd h
@@ -25,7 +25,7 @@ left_key-clear true false segment mid e = rw e refl
 
 -- what the read of a key answered, once its path is the entry's segment alone
 pub Gives-left_key : {A B E : Type 0} (fault : E → Option Fault) (tracks before : Bool) (caught text : Option (List ℕ)) (view : B → A) (r : Result B E) (o : Outcome A) (old mid new : Refusal)
-    → (IsTrue before ↔ (old ≢ clear)) → (tracks ≡ true → Catches fault r caught text) → Gives fault tracks view r o old mid
+    → (IsTrue before ↔ (old ≢ clear)) → (tracks ≡ true → Catches fault r text caught) → Gives fault tracks view r o old mid
     → new ≡ left_key tracks (entry_segment caught) before (is_err r) mid → Gives fault tracks view r (at_key (entry_segment text) o) old new
 Gives-left_key fault tracks before caught text view (Ok b) o old mid new w same h e =
     rw (h.0, e) (refl, λ c. left_key-clear tracks before (entry_segment caught) mid (h.1 c))

@@ -6,6 +6,8 @@ use Rattle.data_core.specs.declared.path.Segment.TheVariants.{Seq}
 use Rattle.data_core.specs.Source.{Source, Offer, scalar, none, unit, some, elements, Sources, end, more}
 use Rattle.data_core.specs.Sequence.{rest_of, surplus}
 use Rattle.data_core.specs.Outcome.{Outcome, given, refused, IsUnder, not_taken}
+use Rattle.data_core.specs.Source as source
+use Rattle.data_core.specs.Tracking.{Refusal, clear}
 use Rattle.data_core.specs.Reads.{IsOutcome, AndThen}
 
 -- nothing for what is absent or a unit, and else something of what the inside is read as
@@ -15,10 +17,21 @@ OptionReads reads (scalar unit) outcome = outcome ≡ given None
 OptionReads reads (some s) outcome = AndThen (reads s) (λ x o. o ≡ given (Some x)) outcome
 OptionReads reads offer outcome = outcome ≡ not_taken offer
 
+-- what the read of an option leaves of a clear track is what the read of its inside does
+abbrev pub OptionLeaves : (Source → Refusal → Type 0) → Offer → Refusal → Type 0
+OptionLeaves leaves (some s) now = leaves s now
+OptionLeaves leaves offer now = now ≡ clear
+
 -- what the inside is read as, seen through a view of what holds it
 abbrev pub BoxReads : {T V : Type 0} → (V → T) → (Offer → Outcome T → Type 0) → Offer → Outcome V → Type 0
 BoxReads view reads offer (given v) = reads offer (given (view v))
 BoxReads view reads offer (refused f path) = reads offer (refused f path)
+
+-- where the inside's reader reads a refusal as that alone, the box's reader does
+pub box_refusal : {T V : Type 0} (view : V → T) (reads : Offer → Outcome T → Type 0) (f : Fault) → ((o : Outcome T) → reads (source.refused f) o → o ≡ refused f [])
+    → (o : Outcome V) → BoxReads view reads (source.refused f) o → o ≡ refused f []
+box_refusal view reads f alone (given v) h = let same : given (view v) ≡ refused f [] = alone (given (view v)) h in cc
+box_refusal {T} view reads f alone (refused g path) h = let inside : Outcome T = refused g path in let same : inside ≡ refused f [] = alone inside h in cc
 
 -- each element in turn, from a place in the sequence on, up to the first fault
 abbrev pub EachReads : {T : Type 0} → (Source → Outcome T → Type 0) → ℕ → Sources → Outcome (List T) → Type 0

@@ -6,7 +6,7 @@ use Rattle.data_core.specs.Ask.{ignored_any}
 use Rattle.data_core.specs.Source.{Source, source, Offer, scalar, some_itself, some, elements, newtype_itself, newtype_struct, entries, variant_itself, variant, Sources, end, more, Entries, no_entries, entry}
 use Rattle.data_core.specs.Source as offer
 use Rattle.data_core.specs.Wanted.{newtype}
-use Rattle.data_core.specs.Table.{segment_of_key}
+use Rattle.data_core.specs.Table.{Table, segment_of_key, value_taken}
 use Rattle.data_core.specs.Choice.{segment_of_variant}
 use Rattle.data_core.specs.Outcome.{Outcome, given, refused, under, bare, and_then}
 
@@ -48,6 +48,31 @@ abbrev mutual
   ignored_entries no_entries = given tt
   ignored_entries (entry k v es) =
       and_then (ignored_pair (segment_of_key ignored_any k) (ignored k) (ignored v)) (λ u. ignored_entries es)
+
+-- where a part is refused, what is there then, and else what comes later
+abbrev pub stopped : {S : Type 0} → Outcome (Unit {0}) → S → S → S
+stopped (given u) here later = later
+stopped (refused f path) here later = here
+
+-- the elements that come after the first refused one
+abbrev pub after_refused : Sources → Sources
+after_refused end = end
+after_refused (more s ss) = stopped (ignored s) ss (after_refused ss)
+
+-- the entries that come after the first one with a refused key or value
+abbrev pub after_refused_entry : Entries → Entries
+after_refused_entry no_entries = no_entries
+after_refused_entry (entry k v es) = stopped (ignored k) es (stopped (ignored v) es (after_refused_entry es))
+
+-- the value that waits then: that of a refused key
+abbrev pub waits_refused : Entries → Option Source
+waits_refused no_entries = None
+waits_refused (entry k v es) = stopped (ignored k) (Some v) (stopped (ignored v) None (waits_refused es))
+
+-- after a key and its value were read and dropped: the value of a key that was refused waits still
+abbrev pub pair_taken : Outcome (Unit {0}) → Table → Table
+pair_taken (given u) t = value_taken t
+pair_taken (refused f path) t = t
 
 abbrev mutual
   -- how deep a source is that is read and dropped

@@ -18,6 +18,12 @@ impl<S: DeserializeSeed> DeserializeSeed for BoxSeed<S> {
 
     ghost reads = { λ seed. BoxReads (λ b. b.value) (S.reads seed.inner) };
 
+    ghost quiet = { S.quiet };
+
+    ghost placed = { S.placed };
+
+    ghost leaves = { λ seed. S.leaves seed.inner };
+
     fn hint(&self) -> Hint<'_> {
         self.inner.hint()
     }
@@ -35,7 +41,9 @@ impl<S: DeserializeSeed> DeserializeSeed for BoxSeed<S> {
         }
     }
 
-    ghost passes_refusals = { λ seed. S.passes_refusals seed.inner };
+    ghost use Rattle.data_std.specs.Compound.{box_refusal};
+
+    ghost passes_refusals = { λ seed f. let passes = S.passes_refusals seed.inner f in (passes.0, box_refusal (λ b. b.value) (S.reads seed.inner) f passes.1) };
 }
 
 impl<T: Deserialize> Deserialize for Box<T> {
@@ -44,6 +52,8 @@ impl<T: Deserialize> Deserialize for Box<T> {
     ghost asks = { T.asks };
 
     ghost reads = { BoxReads (λ b. b.value) T.reads };
+
+    ghost leaves = { T.leaves };
 
     fn seed(alloc: Global) -> Result<BoxSeed<T::Seed>, AllocError> {
         Ok(BoxSeed {

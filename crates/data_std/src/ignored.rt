@@ -1,16 +1,19 @@
 //! What is read and dropped.
-ghost use Rattle.std.specs.Prelude.{◌≡◌, true, Some, OnOk, IsSome};
+ghost use Rattle.std.specs.Prelude.{◌≡◌, true, Some, None, OnOk, IsSome};
 ghost use Rattle.data_core.specs.Ask.{ignored_any};
-ghost use Rattle.data_core.specs.Source.{Source, end, no_entries, offer_of};
-ghost use Rattle.data_core.specs.Table.{Catches, key_text, with_caught, entry_segment, segment_of_key};
+ghost use Rattle.data_core.specs.Source.{Source, offer_of};
 ghost use Rattle.data_core.specs.Source as offer;
+ghost use Rattle.data_core.specs.Took.{Took};
+ghost use Rattle.data_core.specs.Table.{Catches, KeepsText, offer_text, value_taken, entry_segment, segment_of_key};
 ghost use Rattle.data_core.specs.Wanted.{newtype};
-ghost use Rattle.data_core.specs.Choice.{name_caught, variant_segment};
+ghost use Rattle.data_core.specs.Choice.{variant_segment};
 ghost use Rattle.data_core.specs.declared.path.Segment.{Segment};
 ghost use Rattle.data_core.specs.Show.{shown_offer, Begins};
 ghost use Rattle.data_core.specs.Outcome.{under, bare, Gives};
-ghost use Rattle.data_std.specs.Ignored.{ignored, ignored_offer, ignored_rest, ignored_entries, ignored_pair, at_key};
+ghost use Rattle.data_core.specs.Tracking.{Keeps, Notes, clear};
 ghost use Rattle.data_core.specs.Reads.{IsOutcome};
+ghost use Rattle.data_std.specs.Ignored.{ignored, ignored_offer, ignored_rest, ignored_entries, ignored_pair, at_key, after_refused, after_refused_entry, waits_refused, pair_taken};
+ghost use Rattle.data_std.specs.Whole.{all_taken, Counts, entries_taken, CountsKeys, IsLeft};
 
 use crate::types::Deserialize;
 use data_core::{DeserializeSeed, Deserializer, Hint, Shown, Track};
@@ -24,10 +27,17 @@ impl DeserializeSeed for IgnoredAny {
     type Value = IgnoredAny;
 
     ghost use Rattle.std.specs.Prelude.{refl};
+    ghost use Rattle.data_core.specs.Reads.{only_refusal};
 
     ghost asks = { λ _. ignored_any };
 
     ghost reads = { λ _ offer outcome. IsOutcome (λ _. tt) (ignored_offer offer) outcome };
+
+    ghost quiet = { Unit {0} };
+
+    ghost placed = { Unit {0} };
+
+    ghost leaves = { λ _ _ now. now ≡ clear };
 
     fn hint(&self) -> Hint<'_> {
         Hint::IgnoredAny
@@ -43,7 +53,7 @@ impl DeserializeSeed for IgnoredAny {
         Ok(IgnoredAny)
     }
 
-    ghost passes_refusals = { λ _ _. refl };
+    ghost passes_refusals = { λ _ f. (refl, only_refusal (λ _. tt) f) };
 }
 
 impl Deserialize for IgnoredAny {
@@ -53,13 +63,16 @@ impl Deserialize for IgnoredAny {
 
     ghost reads = { λ offer outcome. IsOutcome (λ _. tt) (ignored_offer offer) outcome };
 
+    ghost leaves = { λ _ now. now ≡ clear };
+
     fn seed(_alloc: Global) -> Result<IgnoredAny, AllocError> {
         Ok(IgnoredAny)
     }
 }
 
-/// Reads each element of a sequence that is left, and drops it. `track` then holds the path of a
-/// refusal, if `D` tracks and no path was held before.
+/// Reads each element of a sequence that is left, and drops it, up to the first refusal. What came
+/// after a refused element is left. `track` then holds the path of a refusal, if `D` tracks and no
+/// path was held before.
 #[cycle(ignore)]
 pub fn ignore_rest<D: Deserializer>(
     alloc: Global,
@@ -68,7 +81,11 @@ pub fn ignore_rest<D: Deserializer>(
 ) -> Result<(), D::Error>
     ensures value { Gives D.Error.fault D.tracks (λ u. u) result
         (ignored_rest (D.sequence seq.old).taken (D.sequence seq.old).left) track.old track.new }
-    ensures left { OnOk result ((D.sequence seq.new).left ≡ end) }
+    ensures keeps { Keeps D.Error.fault (Unit {0}) D.tracks result track.old track.new }
+    ensures counts { Counts (D.sequence seq.old) (D.sequence seq.new) }
+    ensures all { OnOk result (D.sequence seq.new ≡ all_taken (D.sequence seq.old)) }
+    ensures left { IsLeft D.Error.fault result (after_refused (D.sequence seq.old).left) (D.sequence seq.new).left }
+    ensures notes { D.tracks ≡ true → Notes D.Error.fault result track.new }
 {
     'elements: while let Some(element) = D::next_element(seq)? {
         let before = track.holds();
@@ -79,8 +96,9 @@ pub fn ignore_rest<D: Deserializer>(
     Ok(())
 }
 
-/// Reads each entry of a map that is left, and drops it. `track` then holds the path of a refusal,
-/// if `D` tracks and no path was held before.
+/// Reads each entry of a map that is left, and drops it, up to the first refusal. What came after a
+/// refused entry is left, and the value of a refused key waits. `track` then holds the path of a
+/// refusal, if `D` tracks and no path was held before.
 #[cycle(ignore)]
 pub fn ignore_entries<D: Deserializer>(
     alloc: Global,
@@ -89,7 +107,13 @@ pub fn ignore_entries<D: Deserializer>(
 ) -> Result<(), D::Error>
     ensures value { Gives D.Error.fault D.tracks (λ u. u) result
         (ignored_entries (D.table map.old).left) track.old track.new }
-    ensures left { OnOk result ((D.table map.new).left ≡ no_entries) }
+    ensures keeps { Keeps D.Error.fault (Unit {0}) D.tracks result track.old track.new }
+    ensures counts { CountsKeys (D.table map.old) (D.table map.new) }
+    ensures all { OnOk result (D.table map.new ≡ entries_taken (D.table map.old)) }
+    ensures left { IsLeft D.Error.fault result (after_refused_entry (D.table map.old).left) (D.table map.new).left }
+    ensures waiting { IsLeft D.Error.fault result (waits_refused (D.table map.old).left) (D.table map.new).waiting }
+    ensures caught { D.tracks ≡ true → IsLeft D.Error.fault result None (D.key_text map.new) }
+    ensures notes { D.tracks ≡ true → Notes D.Error.fault result track.new }
 {
     'entries: while let Some(key) = D::next_key(map)? {
         ignore_entry(alloc, map, key, track)?;
@@ -108,7 +132,10 @@ fn ignore_entry<D: Deserializer>(
     requires { IsSome (D.table map.old).waiting }
     ensures value { (v : Source) → (D.table map.old).waiting ≡ Some v → Gives D.Error.fault D.tracks (λ u. u) result
         (ignored_pair (segment_of_key ignored_any (D.source key)) (ignored (D.source key)) (ignored v)) track.old track.new }
-    ensures left { OnOk result ((D.table map.new).left ≡ (D.table map.old).left) }
+    ensures keeps { Keeps D.Error.fault (Unit {0}) D.tracks result track.old track.new }
+    ensures took { Took D.Error.fault result (D.table map.old) (pair_taken (ignored (D.source key)) (D.table map.old)) (D.table map.new) }
+    ensures caught { D.tracks ≡ true → IsLeft D.Error.fault result None (D.key_text map.new) }
+    ensures notes { D.tracks ≡ true → Notes D.Error.fault result track.new }
 {
     ignore_key(alloc, map, key, track)?;
     ignore_value::<D>(alloc, map, track)
@@ -124,8 +151,11 @@ fn ignore_key<D: Deserializer>(
 ) -> Result<(), D::Error>
     ensures value { Gives D.Error.fault D.tracks (λ u. u) result
         (at_key (segment_of_key ignored_any (D.source key)) (ignored (D.source key))) track.old track.new }
-    ensures caught { D.tracks ≡ true → OnOk result ((D.table map.new).caught ≡ key_text (offer_of (D.source key) ignored_any)) }
-    ensures table { OnOk result (D.table map.new ≡ with_caught (D.table map.new).caught (D.table map.old)) }
+    ensures keeps { Keeps D.Error.fault (Unit {0}) D.tracks result track.old track.new }
+    ensures caught { D.tracks ≡ true → KeepsText D.Error.fault result (offer_text (offer_of (D.source key) ignored_any))
+        (D.key_text map.new) }
+    ensures table { D.table map.new ≡ D.table map.old }
+    ensures notes { D.tracks ≡ true → Notes D.Error.fault result track.new }
 {
     let before = track.holds();
     let read = visit_key(alloc, map, key, track);
@@ -142,9 +172,10 @@ fn visit_key<D: Deserializer>(
     track: &mut Track,
 ) -> Result<(), D::Error>
     ensures value { Gives D.Error.fault D.tracks (λ u. u) result (ignored (D.source key)) track.old track.new }
-    ensures caught { D.tracks ≡ true → Catches D.Error.fault result (D.table map.new).caught
-        (key_text (offer_of (D.source key) ignored_any)) }
-    ensures table { D.table map.new ≡ with_caught (D.table map.new).caught (D.table map.old) }
+    ensures keeps { Keeps D.Error.fault (Unit {0}) D.tracks result track.old track.new }
+    ensures caught { D.tracks ≡ true → Catches D.Error.fault result (offer_text (offer_of (D.source key) ignored_any))
+        (D.key_text map.new) }
+    ensures table { D.table map.new ≡ D.table map.old }
 {
     let shown = D::show_key(map, key, Hint::IgnoredAny)?;
     ignore_shown(alloc, shown, track)
@@ -159,10 +190,13 @@ pub fn ignore_value<D: Deserializer>(
     track: &mut Track,
 ) -> Result<(), D::Error>
     requires { IsSome (D.table map.old).waiting }
-    ensures value { (segment : Segment) → (D.tracks ≡ true → segment ≡ entry_segment (D.table map.old).caught)
+    ensures value { (segment : Segment) → (D.tracks ≡ true → segment ≡ entry_segment (D.key_text map.old))
         → (v : Source) → (D.table map.old).waiting ≡ Some v → Gives D.Error.fault D.tracks (λ u. u) result
         (under segment (ignored v)) track.old track.new }
-    ensures left { OnOk result ((D.table map.new).left ≡ (D.table map.old).left) }
+    ensures keeps { Keeps D.Error.fault (Unit {0}) D.tracks result track.old track.new }
+    ensures took { Took D.Error.fault result (D.table map.old) (value_taken (D.table map.old)) (D.table map.new) }
+    ensures caught { Took D.Error.fault result (D.key_text map.old) None (D.key_text map.new) }
+    ensures notes { D.tracks ≡ true → Notes D.Error.fault result track.new }
 {
     let value = D::next_value(map)?;
     let before = track.holds();
@@ -174,7 +208,8 @@ pub fn ignore_value<D: Deserializer>(
 // Reads what a deserializer stands for, and drops it.
 #[cycle(ignore)]
 fn ignore<D: Deserializer>(alloc: Global, d: D, track: &mut Track) -> Result<(), D::Error>
-    ensures { Gives D.Error.fault D.tracks (λ u. u) result (ignored (D.source d)) track.old track.new }
+    ensures value { Gives D.Error.fault D.tracks (λ u. u) result (ignored (D.source d)) track.old track.new }
+    ensures keeps { Keeps D.Error.fault (Unit {0}) D.tracks result track.old track.new }
 {
     let shown = d.show(Hint::IgnoredAny)?;
     ignore_shown(alloc, shown, track)
@@ -187,9 +222,10 @@ fn ignore_shown<D: Deserializer>(
     shown: Shown<D>,
     track: &mut Track,
 ) -> Result<(), D::Error>
-    requires { Begins D.sequence D.table shown }
-    ensures { Gives D.Error.fault D.tracks (λ u. u) result
+    requires { Begins D.sequence D.table D.key_text D.name_text shown }
+    ensures value { Gives D.Error.fault D.tracks (λ u. u) result
         (ignored_offer (shown_offer D.Text.text D.Bytes.bytes D.source D.sequence D.table D.choice shown)) track.old track.new }
+    ensures keeps { Keeps D.Error.fault (Unit {0}) D.tracks result track.old track.new }
 {
     match shown {
         Shown::Scalar(_) => Ok(()),
@@ -217,8 +253,9 @@ fn ignore_variant<D: Deserializer>(
     name: D,
     track: &mut Track,
 ) -> Result<(), D::Error>
-    ensures { Gives D.Error.fault D.tracks (λ u. u) result
-        (ignored_offer (offer.variant (D.source name) (D.choice variant.old).payload)) track.old track.new }
+    ensures value { Gives D.Error.fault D.tracks (λ u. u) result
+        (ignored_offer (offer.variant (D.source name) (D.choice variant.old))) track.old track.new }
+    ensures keeps { Keeps D.Error.fault (Unit {0}) D.tracks result track.old track.new }
 {
     ignore_name(alloc, variant, name, track)?;
     ignore_payload::<D>(alloc, variant, track)
@@ -233,8 +270,10 @@ fn ignore_name<D: Deserializer>(
     track: &mut Track,
 ) -> Result<(), D::Error>
     ensures value { Gives D.Error.fault D.tracks (λ u. u) result (bare (ignored (D.source name))) track.old track.new }
-    ensures caught { D.tracks ≡ true → OnOk result ((D.choice variant.new).caught ≡ key_text (offer_of (D.source name) ignored_any)) }
-    ensures payload { OnOk result ((D.choice variant.new).payload ≡ (D.choice variant.old).payload) }
+    ensures keeps { Keeps D.Error.fault (Unit {0}) D.tracks result track.old track.new }
+    ensures caught { D.tracks ≡ true → Catches D.Error.fault result (offer_text (offer_of (D.source name) ignored_any))
+        (D.name_text variant.new) }
+    ensures choice { D.choice variant.new ≡ D.choice variant.old }
 {
     let before = track.holds();
     let read = visit_name(alloc, variant, name, track);
@@ -251,9 +290,10 @@ fn visit_name<D: Deserializer>(
     track: &mut Track,
 ) -> Result<(), D::Error>
     ensures value { Gives D.Error.fault D.tracks (λ u. u) result (ignored (D.source name)) track.old track.new }
-    ensures caught { D.tracks ≡ true → Catches D.Error.fault result (D.choice variant.new).caught
-        (key_text (offer_of (D.source name) ignored_any)) }
-    ensures choice { D.choice variant.new ≡ name_caught (D.choice variant.new).caught (D.choice variant.old) }
+    ensures keeps { Keeps D.Error.fault (Unit {0}) D.tracks result track.old track.new }
+    ensures caught { D.tracks ≡ true → Catches D.Error.fault result (offer_text (offer_of (D.source name) ignored_any))
+        (D.name_text variant.new) }
+    ensures choice { D.choice variant.new ≡ D.choice variant.old }
 {
     let shown = D::show_name(variant, name, Hint::IgnoredAny)?;
     ignore_shown(alloc, shown, track)
@@ -266,9 +306,10 @@ fn ignore_payload<D: Deserializer>(
     variant: &mut D::Variant,
     track: &mut Track,
 ) -> Result<(), D::Error>
-    ensures { (segment : Segment) → (D.tracks ≡ true → segment ≡ variant_segment (D.choice variant.old).caught)
+    ensures value { (segment : Segment) → (D.tracks ≡ true → segment ≡ variant_segment (D.name_text variant.old))
         → Gives D.Error.fault D.tracks (λ u. u) result
-        (under segment (ignored_offer ((D.choice variant.old).payload newtype))) track.old track.new }
+        (under segment (ignored_offer (D.choice variant.old newtype))) track.old track.new }
+    ensures keeps { Keeps D.Error.fault (Unit {0}) D.tracks result track.old track.new }
 {
     let before = track.holds();
     let read = ignore_inside::<D>(alloc, variant, track);
@@ -284,8 +325,9 @@ fn ignore_inside<D: Deserializer>(
     track: &mut Track,
 ) -> Result<(), D::Error>
     ensures value { Gives D.Error.fault D.tracks (λ u. u) result
-        (ignored_offer ((D.choice variant.old).payload newtype)) track.old track.new }
-    ensures caught { (D.choice variant.new).caught ≡ (D.choice variant.old).caught }
+        (ignored_offer (D.choice variant.old newtype)) track.old track.new }
+    ensures keeps { Keeps D.Error.fault (Unit {0}) D.tracks result track.old track.new }
+    ensures caught { D.name_text variant.new ≡ D.name_text variant.old }
 {
     let inside = D::newtype_variant(alloc, variant)?;
     ignore(alloc, inside, track)

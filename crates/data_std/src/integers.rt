@@ -1,7 +1,8 @@
 //! The integer types have readers of their own.
-ghost use Rattle.std.specs.Prelude.{◌-◌, ◌^◌, pos, negsuc};
+ghost use Rattle.std.specs.Prelude.{◌≡◌, ◌-◌, ◌^◌, pos, negsuc};
 ghost use Rattle.data_core.specs.Ask as asks;
 ghost use Rattle.data_core.specs.Reads.{IsOutcome};
+ghost use Rattle.data_core.specs.Tracking.{clear};
 ghost use Rattle.scalar_seeds.specs.Scalars.{integer_of, wide_of};
 
 use crate::types::Deserialize;
@@ -15,6 +16,8 @@ impl Deserialize for u8 {
 
     ghost reads = { λ offer outcome. IsOutcome (pos) (integer_of (pos 0) (pos (2 ^ 8 - 1)) offer) outcome };
 
+    ghost leaves = { λ _ now. now ≡ clear };
+
     fn seed(_alloc: Global) -> Result<IntegerSeed<u8>, AllocError> {
         Ok(IntegerSeed::new())
     }
@@ -26,6 +29,8 @@ impl Deserialize for u16 {
     ghost asks = { asks.u16 };
 
     ghost reads = { λ offer outcome. IsOutcome (pos) (integer_of (pos 0) (pos (2 ^ 16 - 1)) offer) outcome };
+
+    ghost leaves = { λ _ now. now ≡ clear };
 
     fn seed(_alloc: Global) -> Result<IntegerSeed<u16>, AllocError> {
         Ok(IntegerSeed::new())
@@ -39,6 +44,8 @@ impl Deserialize for u32 {
 
     ghost reads = { λ offer outcome. IsOutcome (pos) (integer_of (pos 0) (pos (2 ^ 32 - 1)) offer) outcome };
 
+    ghost leaves = { λ _ now. now ≡ clear };
+
     fn seed(_alloc: Global) -> Result<IntegerSeed<u32>, AllocError> {
         Ok(IntegerSeed::new())
     }
@@ -50,6 +57,8 @@ impl Deserialize for u64 {
     ghost asks = { asks.u64 };
 
     ghost reads = { λ offer outcome. IsOutcome (pos) (integer_of (pos 0) (pos (2 ^ 64 - 1)) offer) outcome };
+
+    ghost leaves = { λ _ now. now ≡ clear };
 
     fn seed(_alloc: Global) -> Result<IntegerSeed<u64>, AllocError> {
         Ok(IntegerSeed::new())
@@ -63,6 +72,8 @@ impl Deserialize for i8 {
 
     ghost reads = { λ offer outcome. IsOutcome (λ n. n) (integer_of (negsuc (2 ^ 7 - 1)) (pos (2 ^ 7 - 1)) offer) outcome };
 
+    ghost leaves = { λ _ now. now ≡ clear };
+
     fn seed(_alloc: Global) -> Result<IntegerSeed<i8>, AllocError> {
         Ok(IntegerSeed::new())
     }
@@ -74,6 +85,8 @@ impl Deserialize for i16 {
     ghost asks = { asks.i16 };
 
     ghost reads = { λ offer outcome. IsOutcome (λ n. n) (integer_of (negsuc (2 ^ 15 - 1)) (pos (2 ^ 15 - 1)) offer) outcome };
+
+    ghost leaves = { λ _ now. now ≡ clear };
 
     fn seed(_alloc: Global) -> Result<IntegerSeed<i16>, AllocError> {
         Ok(IntegerSeed::new())
@@ -87,6 +100,8 @@ impl Deserialize for i32 {
 
     ghost reads = { λ offer outcome. IsOutcome (λ n. n) (integer_of (negsuc (2 ^ 31 - 1)) (pos (2 ^ 31 - 1)) offer) outcome };
 
+    ghost leaves = { λ _ now. now ≡ clear };
+
     fn seed(_alloc: Global) -> Result<IntegerSeed<i32>, AllocError> {
         Ok(IntegerSeed::new())
     }
@@ -98,6 +113,8 @@ impl Deserialize for i64 {
     ghost asks = { asks.i64 };
 
     ghost reads = { λ offer outcome. IsOutcome (λ n. n) (integer_of (negsuc (2 ^ 63 - 1)) (pos (2 ^ 63 - 1)) offer) outcome };
+
+    ghost leaves = { λ _ now. now ≡ clear };
 
     fn seed(_alloc: Global) -> Result<IntegerSeed<i64>, AllocError> {
         Ok(IntegerSeed::new())
@@ -111,6 +128,8 @@ impl Deserialize for u128 {
 
     ghost reads = { λ offer outcome. IsOutcome (pos) (wide_of (pos 0) (pos (2 ^ 128 - 1)) offer) outcome };
 
+    ghost leaves = { λ _ now. now ≡ clear };
+
     fn seed(_alloc: Global) -> Result<WideIntegerSeed<u128>, AllocError> {
         Ok(WideIntegerSeed::new())
     }
@@ -122,6 +141,8 @@ impl Deserialize for i128 {
     ghost asks = { asks.i128 };
 
     ghost reads = { λ offer outcome. IsOutcome (λ n. n) (wide_of (negsuc (2 ^ 127 - 1)) (pos (2 ^ 127 - 1)) offer) outcome };
+
+    ghost leaves = { λ _ now. now ≡ clear };
 
     fn seed(_alloc: Global) -> Result<WideIntegerSeed<i128>, AllocError> {
         Ok(WideIntegerSeed::new())

@@ -1,9 +1,11 @@
 //! Readers of lists.
-ghost use Rattle.std.specs.Prelude.{refl};
+ghost use Rattle.std.specs.Prelude.{◌≡◌, true, refl, OnOk};
 ghost use Rattle.data_core.specs.Ask as asks;
 ghost use Rattle.data_core.specs.Outcome.{Among};
-ghost use Rattle.data_core.specs.Reads.{ReadsFrom};
+ghost use Rattle.data_core.specs.Reads.{ReadsFrom, LeavesFrom};
+ghost use Rattle.data_core.specs.Tracking.{Keeps, clear};
 ghost use Rattle.data_std.specs.Compound.{ElementsRead, ListReads};
+ghost use Rattle.data_std.specs.Swallowed.{SequenceLeaves, EachLeaves};
 
 use crate::reading::next_element;
 use crate::types::Deserialize;
@@ -24,6 +26,13 @@ impl<T: Deserialize> DeserializeSeed for VecSeed<T> {
 
     ghost reads = { λ _. ListReads (λ v. v.items) (ReadsFrom T.asks T.reads) };
 
+    ghost quiet = { T.Seed.quiet };
+
+    // An element that went on from a refusal would leave a path that a later refusal is not at.
+    ghost placed = { T.Seed.placed × T.Seed.quiet };
+
+    ghost leaves = { λ _. SequenceLeaves (EachLeaves (LeavesFrom T.asks T.leaves) 0) };
+
     fn hint(&self) -> Hint<'_> {
         Hint::Seq
     }
@@ -40,7 +49,7 @@ impl<T: Deserialize> DeserializeSeed for VecSeed<T> {
         }
     }
 
-    ghost passes_refusals = { λ _ _. refl };
+    ghost passes_refusals = { λ _ _. (refl, λ _ h. h) };
 }
 
 impl<T: Deserialize> Deserialize for Vec<T> {
@@ -49,6 +58,8 @@ impl<T: Deserialize> Deserialize for Vec<T> {
     ghost asks = { asks.seq };
 
     ghost reads = { ListReads (λ v. v.items) (ReadsFrom T.asks T.reads) };
+
+    ghost leaves = { SequenceLeaves (EachLeaves (LeavesFrom T.asks T.leaves) 0) };
 
     fn seed(_alloc: Global) -> Result<VecSeed<T>, AllocError> {
         Ok(VecSeed { of: PhantomData })
@@ -61,9 +72,12 @@ fn elements<D: Deserializer, T: Deserialize>(
     seq: D::Seq,
     track: &mut Track,
 ) -> Result<Vec<T>, D::Error>
-    ensures { Among D.Error.fault D.tracks result
+    ensures reads { Among D.Error.fault (T.Seed.placed × T.Seed.quiet) D.tracks result
         (ElementsRead (λ v. v.items) (ReadsFrom T.asks T.reads) (D.sequence seq).taken (D.sequence seq).left)
         track.old track.new }
+    ensures keeps { Keeps D.Error.fault T.Seed.quiet D.tracks result track.old track.new }
+    ensures leaves { D.tracks ≡ true → track.old ≡ clear → OnOk result
+        (EachLeaves (LeavesFrom T.asks T.leaves) (D.sequence seq).taken (D.sequence seq).left track.new) }
 {
     let mut seq = seq;
     let mut items = Vec::new(alloc);

@@ -1,9 +1,11 @@
 //! Readers of maps.
-ghost use Rattle.std.specs.Prelude.{refl};
+ghost use Rattle.std.specs.Prelude.{◌≡◌, true, refl, OnOk};
 ghost use Rattle.data_core.specs.Ask as asks;
 ghost use Rattle.data_core.specs.Outcome.{Among};
-ghost use Rattle.data_core.specs.Reads.{ReadsFrom};
+ghost use Rattle.data_core.specs.Reads.{ReadsFrom, LeavesFrom};
+ghost use Rattle.data_core.specs.Tracking.{Keeps, clear};
 ghost use Rattle.data_std.specs.Pairs.{TableRead, MapReads};
+ghost use Rattle.data_std.specs.Swallowed.{EntriesLeave, MapLeaves};
 
 use crate::reading::next_entry;
 use crate::types::Deserialize;
@@ -26,6 +28,12 @@ impl<K: Deserialize + Ord, V: Deserialize> DeserializeSeed for MapSeed<K, V> {
 
     ghost reads = { λ _. MapReads (λ m. m.entries) K.cmp K.asks (ReadsFrom K.asks K.reads) (ReadsFrom V.asks V.reads) };
 
+    ghost quiet = { K.Seed.quiet × V.Seed.quiet };
+
+    ghost placed = { (K.Seed.placed × V.Seed.placed) × (K.Seed.quiet × V.Seed.quiet) };
+
+    ghost leaves = { λ _. MapLeaves K.asks (LeavesFrom V.asks V.leaves) };
+
     fn hint(&self) -> Hint<'_> {
         Hint::Map
     }
@@ -42,7 +50,7 @@ impl<K: Deserialize + Ord, V: Deserialize> DeserializeSeed for MapSeed<K, V> {
         }
     }
 
-    ghost passes_refusals = { λ _ _. refl };
+    ghost passes_refusals = { λ _ _. (refl, λ _ h. h) };
 }
 
 impl<K: Deserialize + Ord, V: Deserialize> Deserialize for BTreeMap<K, V> {
@@ -51,6 +59,8 @@ impl<K: Deserialize + Ord, V: Deserialize> Deserialize for BTreeMap<K, V> {
     ghost asks = { asks.map };
 
     ghost reads = { MapReads (λ m. m.entries) K.cmp K.asks (ReadsFrom K.asks K.reads) (ReadsFrom V.asks V.reads) };
+
+    ghost leaves = { MapLeaves K.asks (LeavesFrom V.asks V.leaves) };
 
     fn seed(_alloc: Global) -> Result<MapSeed<K, V>, AllocError> {
         Ok(MapSeed { of: PhantomData })
@@ -63,9 +73,12 @@ fn entries<D: Deserializer, K: Deserialize + Ord, V: Deserialize>(
     map: D::Map,
     track: &mut Track,
 ) -> Result<BTreeMap<K, V>, D::Error>
-    ensures { Among D.Error.fault D.tracks result
+    ensures reads { Among D.Error.fault ((K.Seed.placed × V.Seed.placed) × (K.Seed.quiet × V.Seed.quiet)) D.tracks result
         (TableRead (λ m. m.entries) K.cmp K.asks (ReadsFrom K.asks K.reads) (ReadsFrom V.asks V.reads) (D.table map).left)
         track.old track.new }
+    ensures keeps { Keeps D.Error.fault (K.Seed.quiet × V.Seed.quiet) D.tracks result track.old track.new }
+    ensures leaves { D.tracks ≡ true → track.old ≡ clear → OnOk result
+        (EntriesLeave K.asks (LeavesFrom V.asks V.leaves) (D.table map).left track.new) }
 {
     let mut map = map;
     let mut read = BTreeMap::new(alloc);

@@ -1,8 +1,8 @@
 //! Readers of options.
 ghost use Rattle.std.specs.Prelude.{refl};
 ghost use Rattle.data_core.specs.Ask as asks;
-ghost use Rattle.data_core.specs.Reads.{ReadsFrom};
-ghost use Rattle.data_std.specs.Compound.{OptionReads};
+ghost use Rattle.data_core.specs.Reads.{ReadsFrom, LeavesFrom};
+ghost use Rattle.data_std.specs.Compound.{OptionReads, OptionLeaves};
 
 use crate::reading::deserialize;
 use crate::types::Deserialize;
@@ -23,6 +23,12 @@ impl<T: Deserialize> DeserializeSeed for OptionSeed<T> {
 
     ghost reads = { λ _. OptionReads (ReadsFrom T.asks T.reads) };
 
+    ghost quiet = { T.Seed.quiet };
+
+    ghost placed = { T.Seed.placed };
+
+    ghost leaves = { λ _. OptionLeaves (LeavesFrom T.asks T.leaves) };
+
     fn hint(&self) -> Hint<'_> {
         Hint::Option
     }
@@ -40,7 +46,7 @@ impl<T: Deserialize> DeserializeSeed for OptionSeed<T> {
         }
     }
 
-    ghost passes_refusals = { λ _ _. refl };
+    ghost passes_refusals = { λ _ _. (refl, λ _ h. h) };
 }
 
 impl<T: Deserialize> Deserialize for Option<T> {
@@ -49,6 +55,8 @@ impl<T: Deserialize> Deserialize for Option<T> {
     ghost asks = { asks.option };
 
     ghost reads = { OptionReads (ReadsFrom T.asks T.reads) };
+
+    ghost leaves = { OptionLeaves (LeavesFrom T.asks T.leaves) };
 
     fn seed(_alloc: Global) -> Result<OptionSeed<T>, AllocError> {
         Ok(OptionSeed { of: PhantomData })

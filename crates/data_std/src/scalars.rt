@@ -1,7 +1,8 @@
 //! `bool`, `()`, `char` and `String` have readers of their own.
-ghost use Rattle.std.specs.Prelude.{string_bytes};
+ghost use Rattle.std.specs.Prelude.{◌≡◌, string_bytes};
 ghost use Rattle.data_core.specs.Ask as asks;
 ghost use Rattle.data_core.specs.Reads.{IsOutcome};
+ghost use Rattle.data_core.specs.Tracking.{clear};
 ghost use Rattle.scalar_seeds.specs.Scalars.{boolean_of, character_of, text_of, unit_of};
 
 use crate::types::Deserialize;
@@ -15,6 +16,8 @@ impl Deserialize for bool {
 
     ghost reads = { λ offer outcome. IsOutcome (λ b. b) (boolean_of offer) outcome };
 
+    ghost leaves = { λ _ now. now ≡ clear };
+
     fn seed(_alloc: Global) -> Result<BoolSeed, AllocError> {
         Ok(BoolSeed)
     }
@@ -26,6 +29,8 @@ impl Deserialize for () {
     ghost asks = { asks.unit };
 
     ghost reads = { λ offer outcome. IsOutcome (λ u. u) (unit_of offer) outcome };
+
+    ghost leaves = { λ _ now. now ≡ clear };
 
     fn seed(_alloc: Global) -> Result<UnitSeed, AllocError> {
         Ok(UnitSeed)
@@ -39,6 +44,8 @@ impl Deserialize for char {
 
     ghost reads = { λ offer outcome. IsOutcome (λ c. c) (character_of offer) outcome };
 
+    ghost leaves = { λ _ now. now ≡ clear };
+
     fn seed(_alloc: Global) -> Result<CharSeed, AllocError> {
         Ok(CharSeed)
     }
@@ -50,6 +57,8 @@ impl Deserialize for String {
     ghost asks = { asks.string };
 
     ghost reads = { λ offer outcome. IsOutcome string_bytes (text_of offer) outcome };
+
+    ghost leaves = { λ _ now. now ≡ clear };
 
     fn seed(_alloc: Global) -> Result<StringSeed, AllocError> {
         Ok(StringSeed)

@@ -1,10 +1,12 @@
 //! Readers of tuples.
-ghost use Rattle.std.specs.Prelude.{◌≡◌, ◌+◌, ◌<◌, OnOk, refl};
+ghost use Rattle.std.specs.Prelude.{◌≡◌, ◌+◌, ◌<◌, true, OnOk, refl};
 ghost use Rattle.data_core.specs.Ask as asks;
-ghost use Rattle.data_core.specs.Sequence.{rest_of};
+ghost use Rattle.data_core.specs.Sequence.{rest_of, LeavesNext};
 ghost use Rattle.data_core.specs.Outcome.{Among};
-ghost use Rattle.data_core.specs.Reads.{ReadsFrom};
+ghost use Rattle.data_core.specs.Reads.{ReadsFrom, LeavesFrom};
+ghost use Rattle.data_core.specs.Tracking.{Keeps, clear};
 ghost use Rattle.data_std.specs.Compound.{SequenceReads, PartReads, Parts1, Parts2, Parts3, Parts4};
+ghost use Rattle.data_std.specs.Swallowed.{SequenceLeaves, PartsLeave2, PartsLeave3, PartsLeave4};
 
 use crate::reading::next_element;
 use crate::types::Deserialize;
@@ -26,6 +28,12 @@ impl<T0: Deserialize> DeserializeSeed for Tuple1Seed<T0> {
 
     ghost reads = { λ _. SequenceReads (λ checks. Parts1 (ReadsFrom T0.asks T0.reads) checks 0) };
 
+    ghost quiet = { T0.Seed.quiet };
+
+    ghost placed = { T0.Seed.placed × T0.Seed.quiet };
+
+    ghost leaves = { λ _. SequenceLeaves (LeavesNext (LeavesFrom T0.asks T0.leaves) 0) };
+
     fn hint(&self) -> Hint<'_> {
         Hint::Tuple(1)
     }
@@ -42,7 +50,7 @@ impl<T0: Deserialize> DeserializeSeed for Tuple1Seed<T0> {
         }
     }
 
-    ghost passes_refusals = { λ _ _. refl };
+    ghost passes_refusals = { λ _ _. (refl, λ _ h. h) };
 }
 
 impl<T0: Deserialize> Deserialize for (T0,) {
@@ -51,6 +59,8 @@ impl<T0: Deserialize> Deserialize for (T0,) {
     ghost asks = { asks.tuple 1 };
 
     ghost reads = { SequenceReads (λ checks. Parts1 (ReadsFrom T0.asks T0.reads) checks 0) };
+
+    ghost leaves = { SequenceLeaves (LeavesNext (LeavesFrom T0.asks T0.leaves) 0) };
 
     fn seed(_alloc: Global) -> Result<Tuple1Seed<T0>, AllocError> {
         Ok(Tuple1Seed { of: PhantomData })
@@ -71,6 +81,12 @@ impl<T0: Deserialize, T1: Deserialize> DeserializeSeed for Tuple2Seed<T0, T1> {
 
     ghost reads = { λ _. SequenceReads (λ checks. Parts2 (ReadsFrom T0.asks T0.reads) (ReadsFrom T1.asks T1.reads) checks 0) };
 
+    ghost quiet = { T0.Seed.quiet × T1.Seed.quiet };
+
+    ghost placed = { (T0.Seed.placed × T0.Seed.quiet) × (T1.Seed.placed × T1.Seed.quiet) };
+
+    ghost leaves = { λ _. SequenceLeaves (PartsLeave2 (LeavesFrom T0.asks T0.leaves) (LeavesFrom T1.asks T1.leaves) 0) };
+
     fn hint(&self) -> Hint<'_> {
         Hint::Tuple(2)
     }
@@ -87,7 +103,7 @@ impl<T0: Deserialize, T1: Deserialize> DeserializeSeed for Tuple2Seed<T0, T1> {
         }
     }
 
-    ghost passes_refusals = { λ _ _. refl };
+    ghost passes_refusals = { λ _ _. (refl, λ _ h. h) };
 }
 
 impl<T0: Deserialize, T1: Deserialize> Deserialize for (T0, T1) {
@@ -96,6 +112,8 @@ impl<T0: Deserialize, T1: Deserialize> Deserialize for (T0, T1) {
     ghost asks = { asks.tuple 2 };
 
     ghost reads = { SequenceReads (λ checks. Parts2 (ReadsFrom T0.asks T0.reads) (ReadsFrom T1.asks T1.reads) checks 0) };
+
+    ghost leaves = { SequenceLeaves (PartsLeave2 (LeavesFrom T0.asks T0.leaves) (LeavesFrom T1.asks T1.leaves) 0) };
 
     fn seed(_alloc: Global) -> Result<Tuple2Seed<T0, T1>, AllocError> {
         Ok(Tuple2Seed { of: PhantomData })
@@ -116,6 +134,12 @@ impl<T0: Deserialize, T1: Deserialize, T2: Deserialize> DeserializeSeed for Tupl
 
     ghost reads = { λ _. SequenceReads (λ checks. Parts3 (ReadsFrom T0.asks T0.reads) (ReadsFrom T1.asks T1.reads) (ReadsFrom T2.asks T2.reads) checks 0) };
 
+    ghost quiet = { T0.Seed.quiet × (T1.Seed.quiet × T2.Seed.quiet) };
+
+    ghost placed = { (T0.Seed.placed × T0.Seed.quiet) × ((T1.Seed.placed × T1.Seed.quiet) × (T2.Seed.placed × T2.Seed.quiet)) };
+
+    ghost leaves = { λ _. SequenceLeaves (PartsLeave3 (LeavesFrom T0.asks T0.leaves) (LeavesFrom T1.asks T1.leaves) (LeavesFrom T2.asks T2.leaves) 0) };
+
     fn hint(&self) -> Hint<'_> {
         Hint::Tuple(3)
     }
@@ -132,7 +156,7 @@ impl<T0: Deserialize, T1: Deserialize, T2: Deserialize> DeserializeSeed for Tupl
         }
     }
 
-    ghost passes_refusals = { λ _ _. refl };
+    ghost passes_refusals = { λ _ _. (refl, λ _ h. h) };
 }
 
 impl<T0: Deserialize, T1: Deserialize, T2: Deserialize> Deserialize for (T0, T1, T2) {
@@ -141,6 +165,8 @@ impl<T0: Deserialize, T1: Deserialize, T2: Deserialize> Deserialize for (T0, T1,
     ghost asks = { asks.tuple 3 };
 
     ghost reads = { SequenceReads (λ checks. Parts3 (ReadsFrom T0.asks T0.reads) (ReadsFrom T1.asks T1.reads) (ReadsFrom T2.asks T2.reads) checks 0) };
+
+    ghost leaves = { SequenceLeaves (PartsLeave3 (LeavesFrom T0.asks T0.leaves) (LeavesFrom T1.asks T1.leaves) (LeavesFrom T2.asks T2.leaves) 0) };
 
     fn seed(_alloc: Global) -> Result<Tuple3Seed<T0, T1, T2>, AllocError> {
         Ok(Tuple3Seed { of: PhantomData })
@@ -162,6 +188,12 @@ impl<T0: Deserialize, T1: Deserialize, T2: Deserialize, T3: Deserialize> Deseria
 
     ghost reads = { λ _. SequenceReads (λ checks. Parts4 (ReadsFrom T0.asks T0.reads) (ReadsFrom T1.asks T1.reads) (ReadsFrom T2.asks T2.reads) (ReadsFrom T3.asks T3.reads) checks 0) };
 
+    ghost quiet = { T0.Seed.quiet × (T1.Seed.quiet × (T2.Seed.quiet × T3.Seed.quiet)) };
+
+    ghost placed = { (T0.Seed.placed × T0.Seed.quiet) × ((T1.Seed.placed × T1.Seed.quiet) × ((T2.Seed.placed × T2.Seed.quiet) × (T3.Seed.placed × T3.Seed.quiet))) };
+
+    ghost leaves = { λ _. SequenceLeaves (PartsLeave4 (LeavesFrom T0.asks T0.leaves) (LeavesFrom T1.asks T1.leaves) (LeavesFrom T2.asks T2.leaves) (LeavesFrom T3.asks T3.leaves) 0) };
+
     fn hint(&self) -> Hint<'_> {
         Hint::Tuple(4)
     }
@@ -178,7 +210,7 @@ impl<T0: Deserialize, T1: Deserialize, T2: Deserialize, T3: Deserialize> Deseria
         }
     }
 
-    ghost passes_refusals = { λ _ _. refl };
+    ghost passes_refusals = { λ _ _. (refl, λ _ h. h) };
 }
 
 impl<T0: Deserialize, T1: Deserialize, T2: Deserialize, T3: Deserialize> Deserialize
@@ -188,6 +220,8 @@ impl<T0: Deserialize, T1: Deserialize, T2: Deserialize, T3: Deserialize> Deseria
     ghost asks = { asks.tuple 4 };
 
     ghost reads = { SequenceReads (λ checks. Parts4 (ReadsFrom T0.asks T0.reads) (ReadsFrom T1.asks T1.reads) (ReadsFrom T2.asks T2.reads) (ReadsFrom T3.asks T3.reads) checks 0) };
+
+    ghost leaves = { SequenceLeaves (PartsLeave4 (LeavesFrom T0.asks T0.leaves) (LeavesFrom T1.asks T1.leaves) (LeavesFrom T2.asks T2.leaves) (LeavesFrom T3.asks T3.leaves) 0) };
 
     fn seed(_alloc: Global) -> Result<Tuple4Seed<T0, T1, T2, T3>, AllocError> {
         Ok(Tuple4Seed { of: PhantomData })
@@ -203,8 +237,11 @@ fn parts1<D: Deserializer, T0: Deserialize>(
 ) -> Result<(T0,), D::Error>
     requires taken { (D.sequence seq).taken ≡ place }
     requires small { place < 4 }
-    ensures { Among D.Error.fault D.tracks result
+    ensures reads { Among D.Error.fault (T0.Seed.placed × T0.Seed.quiet) D.tracks result
         (Parts1 (ReadsFrom T0.asks T0.reads) (D.sequence seq).checks place (D.sequence seq).left) track.old track.new }
+    ensures keeps { Keeps D.Error.fault T0.Seed.quiet D.tracks result track.old track.new }
+    ensures leaves { D.tracks ≡ true → track.old ≡ clear → OnOk result
+        (LeavesNext (LeavesFrom T0.asks T0.leaves) place (D.sequence seq).left track.new) }
 {
     let mut seq = seq;
     let first = part::<D, T0>(alloc, &mut seq, place, track)?;
@@ -221,8 +258,11 @@ fn parts2<D: Deserializer, T0: Deserialize, T1: Deserialize>(
 ) -> Result<(T0, T1), D::Error>
     requires taken { (D.sequence seq).taken ≡ place }
     requires small { place < 3 }
-    ensures { Among D.Error.fault D.tracks result
+    ensures reads { Among D.Error.fault ((T0.Seed.placed × T0.Seed.quiet) × (T1.Seed.placed × T1.Seed.quiet)) D.tracks result
         (Parts2 (ReadsFrom T0.asks T0.reads) (ReadsFrom T1.asks T1.reads) (D.sequence seq).checks place (D.sequence seq).left) track.old track.new }
+    ensures keeps { Keeps D.Error.fault (T0.Seed.quiet × T1.Seed.quiet) D.tracks result track.old track.new }
+    ensures leaves { D.tracks ≡ true → track.old ≡ clear → OnOk result
+        (PartsLeave2 (LeavesFrom T0.asks T0.leaves) (LeavesFrom T1.asks T1.leaves) place (D.sequence seq).left track.new) }
 {
     let mut seq = seq;
     let first = part::<D, T0>(alloc, &mut seq, place, track)?;
@@ -239,8 +279,11 @@ fn parts3<D: Deserializer, T0: Deserialize, T1: Deserialize, T2: Deserialize>(
 ) -> Result<(T0, T1, T2), D::Error>
     requires taken { (D.sequence seq).taken ≡ place }
     requires small { place < 2 }
-    ensures { Among D.Error.fault D.tracks result
+    ensures reads { Among D.Error.fault ((T0.Seed.placed × T0.Seed.quiet) × ((T1.Seed.placed × T1.Seed.quiet) × (T2.Seed.placed × T2.Seed.quiet))) D.tracks result
         (Parts3 (ReadsFrom T0.asks T0.reads) (ReadsFrom T1.asks T1.reads) (ReadsFrom T2.asks T2.reads) (D.sequence seq).checks place (D.sequence seq).left) track.old track.new }
+    ensures keeps { Keeps D.Error.fault (T0.Seed.quiet × (T1.Seed.quiet × T2.Seed.quiet)) D.tracks result track.old track.new }
+    ensures leaves { D.tracks ≡ true → track.old ≡ clear → OnOk result
+        (PartsLeave3 (LeavesFrom T0.asks T0.leaves) (LeavesFrom T1.asks T1.leaves) (LeavesFrom T2.asks T2.leaves) place (D.sequence seq).left track.new) }
 {
     let mut seq = seq;
     let first = part::<D, T0>(alloc, &mut seq, place, track)?;
@@ -257,8 +300,11 @@ fn parts4<D: Deserializer, T0: Deserialize, T1: Deserialize, T2: Deserialize, T3
 ) -> Result<(T0, T1, T2, T3), D::Error>
     requires taken { (D.sequence seq).taken ≡ place }
     requires small { place < 1 }
-    ensures { Among D.Error.fault D.tracks result
+    ensures reads { Among D.Error.fault ((T0.Seed.placed × T0.Seed.quiet) × ((T1.Seed.placed × T1.Seed.quiet) × ((T2.Seed.placed × T2.Seed.quiet) × (T3.Seed.placed × T3.Seed.quiet)))) D.tracks result
         (Parts4 (ReadsFrom T0.asks T0.reads) (ReadsFrom T1.asks T1.reads) (ReadsFrom T2.asks T2.reads) (ReadsFrom T3.asks T3.reads) (D.sequence seq).checks place (D.sequence seq).left) track.old track.new }
+    ensures keeps { Keeps D.Error.fault (T0.Seed.quiet × (T1.Seed.quiet × (T2.Seed.quiet × T3.Seed.quiet))) D.tracks result track.old track.new }
+    ensures leaves { D.tracks ≡ true → track.old ≡ clear → OnOk result
+        (PartsLeave4 (LeavesFrom T0.asks T0.leaves) (LeavesFrom T1.asks T1.leaves) (LeavesFrom T2.asks T2.leaves) (LeavesFrom T3.asks T3.leaves) place (D.sequence seq).left track.new) }
 {
     let mut seq = seq;
     let first = part::<D, T0>(alloc, &mut seq, place, track)?;
@@ -274,8 +320,11 @@ fn part<D: Deserializer, T: Deserialize>(
     track: &mut Track,
 ) -> Result<T, D::Error>
     requires { (D.sequence seq.old).taken ≡ place }
-    ensures reads { Among D.Error.fault D.tracks result
+    ensures reads { Among D.Error.fault (T.Seed.placed × T.Seed.quiet) D.tracks result
         (PartReads (ReadsFrom T.asks T.reads) place (D.sequence seq.old).left) track.old track.new }
+    ensures keeps { Keeps D.Error.fault T.Seed.quiet D.tracks result track.old track.new }
+    ensures leaves { D.tracks ≡ true → track.old ≡ clear → OnOk result
+        (LeavesNext (LeavesFrom T.asks T.leaves) place (D.sequence seq.old).left track.new) }
     ensures left { OnOk result ((D.sequence seq.new).left ≡ rest_of (D.sequence seq.old).left) }
     ensures taken { OnOk result ((D.sequence seq.new).taken ≡ place + 1) }
     ensures checks { OnOk result ((D.sequence seq.new).checks ≡ (D.sequence seq.old).checks) }

@@ -1,4 +1,7 @@
 //! Enums that are read by hand.
+ghost use Rattle.std.specs.Prelude.{◌≡◌, refl};
+ghost use Rattle.data_core.specs.Reads.{Unsaid};
+ghost use Rattle.data_core.specs.Tracking.{Keeps, clear};
 ghost use Rattle.data_core.specs.Ask as asks;
 ghost use Rattle.data_core.specs.Outcome.{Among};
 
@@ -36,7 +39,8 @@ fn payload<D: Deserializer>(
     chosen: &mut D::Variant,
     track: &mut Track,
 ) -> Result<Foo, D::Error>
-    ensures { Among D.Error.fault D.tracks result (λ _. Unit {0}) track.old track.new }
+    ensures reads { Among D.Error.fault (Unit {0}) D.tracks result (λ _. Unit {0}) track.old track.new }
+    ensures keeps { Keeps D.Error.fault (Unit {0}) D.tracks result track.old track.new }
 {
     match name {
         "Bar" => {
@@ -57,7 +61,8 @@ fn no_payload<D: Deserializer>(
     chosen: &mut D::Variant,
     track: &mut Track,
 ) -> Result<(), D::Error>
-    ensures { Among D.Error.fault D.tracks result (λ _. Unit {0}) track.old track.new }
+    ensures reads { Among D.Error.fault (Unit {0}) D.tracks result (λ _. Unit {0}) track.old track.new }
+    ensures keeps { Keeps D.Error.fault (Unit {0}) D.tracks result track.old track.new }
 {
     unit_variant::<D>(alloc, chosen, track)
 }
@@ -67,7 +72,8 @@ fn number<D: Deserializer>(
     chosen: &mut D::Variant,
     track: &mut Track,
 ) -> Result<u8, D::Error>
-    ensures { Among D.Error.fault D.tracks result (λ _. Unit {0}) track.old track.new }
+    ensures reads { Among D.Error.fault (Unit {0}) D.tracks result (λ _. Unit {0}) track.old track.new }
+    ensures keeps { Keeps D.Error.fault (Unit {0}) D.tracks result track.old track.new }
 {
     newtype_variant::<D, u8>(alloc, chosen, track)
 }
@@ -77,7 +83,8 @@ fn no_elements<D: Deserializer>(
     chosen: &mut D::Variant,
     track: &mut Track,
 ) -> Result<NoElements, D::Error>
-    ensures { Among D.Error.fault D.tracks result (λ _. Unit {0}) track.old track.new }
+    ensures reads { Among D.Error.fault (Unit {0}) D.tracks result (λ _. Unit {0}) track.old track.new }
+    ensures keeps { Keeps D.Error.fault (Unit {0}) D.tracks result track.old track.new }
 {
     tuple_variant::<D, NoElements>(alloc, chosen, 2, NoElements, track)
 }
@@ -89,14 +96,19 @@ impl DeserializeSeed for FooSeed {
 
     ghost asks = { λ s. asks.enum (codes "Foo") s.variants };
 
-    // Nothing is said of it.
-    ghost reads = { λ _ _ _. Unit {0} };
+    // Nothing is said of it but that it passes refusals on.
+    ghost reads = { λ _. Unsaid };
+
+    ghost quiet = { Unit {0} };
+
+    ghost placed = { Unit {0} };
+
+    ghost leaves = { λ _ _ now. now ≡ clear };
 
     fn hint(&self) -> Hint<'_> {
         Hint::Enum("Foo", &self.variants)
     }
 
-    #[tactic(auto, using(crate::proofs::Steps::told_later))]
     fn visit<D: Deserializer>(
         self,
         alloc: Global,
@@ -111,7 +123,7 @@ impl DeserializeSeed for FooSeed {
         payload::<D>(alloc, &self.variants, name.as_str(), &mut chosen, track)
     }
 
-    ghost passes_refusals = { λ _ _. tt };
+    ghost passes_refusals = { λ _ _. (refl, λ _ h. h) };
 }
 
 // A reader of a tuple that takes none of its elements. It is its own reader.
@@ -123,8 +135,14 @@ impl DeserializeSeed for NoElements {
 
     ghost asks = { λ _. asks.tuple 2 };
 
-    // Nothing is said of it.
-    ghost reads = { λ _ _ _. Unit {0} };
+    // Nothing is said of it but that it passes refusals on.
+    ghost reads = { λ _. Unsaid };
+
+    ghost quiet = { Unit {0} };
+
+    ghost placed = { Unit {0} };
+
+    ghost leaves = { λ _ _ now. now ≡ clear };
 
     fn hint(&self) -> Hint<'_> {
         Hint::Tuple(2)
@@ -143,7 +161,7 @@ impl DeserializeSeed for NoElements {
         Ok(NoElements)
     }
 
-    ghost passes_refusals = { λ _ _. tt };
+    ghost passes_refusals = { λ _ _. (refl, λ _ h. h) };
 }
 
 fn seed(alloc: Global) -> Result<FooSeed, AllocError> {

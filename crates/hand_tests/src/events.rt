@@ -1,4 +1,7 @@
 //! A reader by hand that keeps a tree, and reads it once it knows as what.
+ghost use Rattle.std.specs.Prelude.{◌≡◌, refl};
+ghost use Rattle.data_core.specs.Reads.{Unsaid};
+ghost use Rattle.data_core.specs.Tracking.{Keeps, clear};
 ghost use Rattle.data_core.specs.Ask as asks;
 ghost use Rattle.data_core.specs.Outcome.{Among};
 
@@ -43,7 +46,8 @@ fn entries<D: Deserializer>(
     map: &mut D::Map,
     track: &mut Track,
 ) -> Result<(Value, Value), D::Error>
-    ensures { Among D.Error.fault D.tracks result (λ _. Unit {0}) track.old track.new }
+    ensures reads { Among D.Error.fault (Unit {0}) D.tracks result (λ _. Unit {0}) track.old track.new }
+    ensures keeps { Keeps D.Error.fault (Unit {0}) D.tracks result track.old track.new }
 {
     let mut kind = Value::Unit;
     let mut object = Value::Unit;
@@ -67,14 +71,19 @@ impl DeserializeSeed for EventSeed {
 
     ghost asks = { λ s. asks.struct (codes "Event") s.fields };
 
-    // Nothing is said of it.
-    ghost reads = { λ _ _ _. Unit {0} };
+    // Nothing is said of it but that it passes refusals on.
+    ghost reads = { λ _. Unsaid };
+
+    ghost quiet = { Unit {0} };
+
+    ghost placed = { Unit {0} };
+
+    ghost leaves = { λ _ _ now. now ≡ clear };
 
     fn hint(&self) -> Hint<'_> {
         Hint::Struct("Event", &self.fields)
     }
 
-    #[tactic(auto, using(crate::proofs::Steps::told_here))]
     fn visit<D: Deserializer>(
         self,
         alloc: Global,
@@ -92,7 +101,7 @@ impl DeserializeSeed for EventSeed {
         }
     }
 
-    ghost passes_refusals = { λ _ _. tt };
+    ghost passes_refusals = { λ _ _. (refl, λ _ h. h) };
 }
 
 fn two_names(alloc: Global, first: &str, second: &str) -> Result<Names, AllocError> {

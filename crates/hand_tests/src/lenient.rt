@@ -1,4 +1,7 @@
 //! A reader by hand that goes on after refusals.
+ghost use Rattle.std.specs.Prelude.{◌≡◌, None, IfErr, refl};
+ghost use Rattle.data_core.specs.Reads.{Unsaid};
+ghost use Rattle.data_core.specs.Tracking.{Stays};
 ghost use Rattle.data_core.specs.Ask as asks;
 
 use crate::told::{refusal, says};
@@ -14,13 +17,55 @@ use std::test::Fail;
 #[derive(Drop)]
 struct Lenient;
 
+// Goes over one element, and drops its refusal. Tells whether there was one.
+fn pass_over<D: Deserializer>(
+    alloc: Global,
+    seq: &mut D::Seq,
+    track: &mut Track,
+) -> Result<bool, D::Error>
+    ensures memory { IfErr result (λ e. D.Error.fault e ≡ None) }
+    ensures stays { Stays track.old track.new }
+{
+    let Some(element) = D::next_element(seq)? else {
+        return Ok(false);
+    };
+    let before = track.holds();
+    let read = data_std::deserialize::<u8, D>(alloc, element, track);
+    D::leave_element(seq, before, read.is_err(), track)?;
+    Ok(true)
+}
+
+// The same of each element that is left.
+#[tactic(auto, using(crate::proofs::Steps::stays_then))]
+fn pass_over_all<D: Deserializer>(
+    alloc: Global,
+    seq: &mut D::Seq,
+    track: &mut Track,
+) -> Result<(), D::Error>
+    ensures memory { IfErr result (λ e. D.Error.fault e ≡ None) }
+    ensures stays { Stays track.old track.new }
+{
+    'elements: for _ in 0..u64::MAX {
+        if !pass_over::<D>(alloc, seq, track)? {
+            break;
+        }
+    }
+    Ok(())
+}
+
 impl DeserializeSeed for Lenient {
     type Value = Lenient;
 
     ghost asks = { λ _. asks.seq };
 
-    // Nothing is said of it.
-    ghost reads = { λ _ _ _. Unit {0} };
+    // Nothing is said of it but that it passes refusals on.
+    ghost reads = { λ _. Unsaid };
+
+    ghost quiet = { ⊥ };
+
+    ghost placed = { Unit {0} };
+
+    ghost leaves = { λ _ _ _. ⊥ };
 
     fn hint(&self) -> Hint<'_> {
         Hint::Seq
@@ -36,21 +81,14 @@ impl DeserializeSeed for Lenient {
             return Err(refused(alloc, shown, "seq"));
         };
         let mut seq = seq;
-        for _ in 0..u64::MAX {
-            let Some(element) = D::next_element(&mut seq)? else {
-                break;
-            };
-            let before = track.holds();
-            let read = data_std::deserialize::<u8, D>(alloc, element, track);
-            D::leave_element(&mut seq, before, read.is_err(), track)?;
-        }
+        pass_over_all::<D>(alloc, &mut seq, track)?;
         if track.is_marked() {
             return Err(D::Error::memory());
         }
         Err(D::Error::custom(alloc, "read to the end"))
     }
 
-    ghost passes_refusals = { λ _ _. tt };
+    ghost passes_refusals = { λ _ _. (refl, λ _ h. h) };
 }
 
 // What is told of a pair.

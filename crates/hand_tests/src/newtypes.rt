@@ -1,4 +1,7 @@
 //! A newtype that is read by hand.
+ghost use Rattle.std.specs.Prelude.{◌≡◌, refl};
+ghost use Rattle.data_core.specs.Reads.{Unsaid};
+ghost use Rattle.data_core.specs.Tracking.{clear};
 ghost use Rattle.data_core.specs.Ask as asks;
 
 use crate::told::{refusal, says};
@@ -21,8 +24,14 @@ impl DeserializeSeed for Foo {
 
     ghost asks = { λ _. asks.newtype_struct (codes "Foo") };
 
-    // Nothing is said of it.
-    ghost reads = { λ _ _ _. Unit {0} };
+    // Nothing is said of it but that it passes refusals on.
+    ghost reads = { λ _. Unsaid };
+
+    ghost quiet = { Unit {0} };
+
+    ghost placed = { Unit {0} };
+
+    ghost leaves = { λ _ _ now. now ≡ clear };
 
     fn hint(&self) -> Hint<'_> {
         Hint::NewtypeStruct("Foo")
@@ -42,7 +51,7 @@ impl DeserializeSeed for Foo {
         }
     }
 
-    ghost passes_refusals = { λ _ _. tt };
+    ghost passes_refusals = { λ _ _. (refl, λ _ h. h) };
 }
 
 impl Deserialize for Foo {
@@ -52,7 +61,9 @@ impl Deserialize for Foo {
 
     ghost asks = { asks.newtype_struct (codes "Foo") };
 
-    ghost reads = { λ _ _. Unit {0} };
+    ghost reads = { Unsaid };
+
+    ghost leaves = { λ _ now. now ≡ clear };
 
     fn seed(_alloc: Global) -> Result<Foo, AllocError> {
         Ok(Foo(0))

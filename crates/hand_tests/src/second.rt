@@ -1,4 +1,7 @@
 //! A reader by hand that passes over the keys of a map and over its first value.
+ghost use Rattle.std.specs.Prelude.{◌≡◌, refl};
+ghost use Rattle.data_core.specs.Reads.{Unsaid};
+ghost use Rattle.data_core.specs.Tracking.{Keeps, clear};
 ghost use Rattle.data_core.specs.Ask as asks;
 ghost use Rattle.data_core.specs.Outcome.{Among};
 
@@ -21,7 +24,8 @@ fn next_number<D: Deserializer>(
     map: &mut D::Map,
     track: &mut Track,
 ) -> Result<Second, D::Error>
-    ensures { Among D.Error.fault D.tracks result (λ _. Unit {0}) track.old track.new }
+    ensures reads { Among D.Error.fault (Unit {0}) D.tracks result (λ _. Unit {0}) track.old track.new }
+    ensures keeps { Keeps D.Error.fault (Unit {0}) D.tracks result track.old track.new }
 {
     match next_entry::<D, IgnoredAny, u8>(alloc, map, track)? {
         Some((_, number)) => Ok(Second(number)),
@@ -34,14 +38,19 @@ impl DeserializeSeed for Second {
 
     ghost asks = { λ _. asks.map };
 
-    // Nothing is said of it.
-    ghost reads = { λ _ _ _. Unit {0} };
+    // Nothing is said of it but that it passes refusals on.
+    ghost reads = { λ _. Unsaid };
+
+    ghost quiet = { Unit {0} };
+
+    ghost placed = { Unit {0} };
+
+    ghost leaves = { λ _ _ now. now ≡ clear };
 
     fn hint(&self) -> Hint<'_> {
         Hint::Map
     }
 
-    #[tactic(auto, using(crate::proofs::Steps::told_later))]
     fn visit<D: Deserializer>(
         self,
         alloc: Global,
@@ -58,7 +67,7 @@ impl DeserializeSeed for Second {
         }
     }
 
-    ghost passes_refusals = { λ _ _. tt };
+    ghost passes_refusals = { λ _ _. (refl, λ _ h. h) };
 }
 
 // What is read of a map of 1 to a unit, and of x to this value.

@@ -1,4 +1,7 @@
 //! A struct that is read by hand.
+ghost use Rattle.std.specs.Prelude.{◌≡◌, refl};
+ghost use Rattle.data_core.specs.Reads.{Unsaid};
+ghost use Rattle.data_core.specs.Tracking.{clear};
 ghost use Rattle.data_core.specs.Ask as asks;
 
 use crate::newtypes::Foo;
@@ -24,8 +27,14 @@ impl DeserializeSeed for StructSeed {
 
     ghost asks = { λ s. asks.struct (codes "S") s.names };
 
-    // Nothing is said of it.
-    ghost reads = { λ _ _ _. Unit {0} };
+    // Nothing is said of it but that it passes refusals on.
+    ghost reads = { λ _. Unsaid };
+
+    ghost quiet = { Unit {0} };
+
+    ghost placed = { Unit {0} };
+
+    ghost leaves = { λ _ _ now. now ≡ clear };
 
     fn hint(&self) -> Hint<'_> {
         Hint::Struct("S", &self.names)
@@ -53,7 +62,7 @@ impl DeserializeSeed for StructSeed {
         foo.ok_or(D::Error::missing_field(alloc, "foo"))
     }
 
-    ghost passes_refusals = { λ _ _. tt };
+    ghost passes_refusals = { λ _ _. (refl, λ _ h. h) };
 }
 
 fn seed(alloc: Global) -> Result<StructSeed, AllocError> {

@@ -27,7 +27,7 @@ pub(crate) fn says(
 
 // A deserializer over this text.
 pub(crate) fn text(alloc: Global, text: &str) -> Result<Text, AllocError> {
-    Ok(StringDeserializer::new(alloc, String::from_str(alloc, text)?))
+    Ok(StringDeserializer::new(String::from_str(alloc, text)?))
 }
 
 // A key and a value.

@@ -14,4 +14,6 @@ mod maps;
 #[cfg(test)]
 mod parts;
 #[cfg(test)]
+mod plain;
+#[cfg(test)]
 mod strings;

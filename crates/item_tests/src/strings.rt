@@ -37,7 +37,7 @@ fn read_name(alloc: Global, name: &str) -> Result<String, AllocError> {
     let mut track = Track::new(alloc);
     answer(
         alloc,
-        variant::<Text, char>(alloc, &mut UnitOnly, name, &mut track),
+        variant::<Text, char>(alloc, &mut UnitOnly::new(), name, &mut track),
     )
 }
 
@@ -82,20 +82,35 @@ fn a_text_is_made_into_a_deserializer(rt: HostRuntime) -> Result<(), Fail> {
 fn the_name_and_the_end_of_a_variant(rt: HostRuntime) -> Result<(), Fail> {
     let alloc = rt.alloc();
     let mut track = Track::new(alloc);
-    assert!(rt; unit_variant::<Text>(alloc, &mut UnitOnly, &mut track).is_ok());
+    assert!(rt; unit_variant::<Text>(alloc, &mut UnitOnly::new(), &mut track).is_ok());
     says(&rt, read_name(alloc, "a"), "'a'")
 }
 
 #[test]
 fn a_variant_of_no_payload(rt: HostRuntime) -> Result<(), Fail> {
     let alloc = rt.alloc();
-    let newtype = Text::newtype_variant(alloc, &mut UnitOnly);
+    let newtype = Text::newtype_variant(alloc, &mut UnitOnly::new());
     let want = "invalid type: unit variant, expected newtype variant";
     says(&rt, refusal(alloc, newtype), want)?;
-    let tuple = Text::tuple_variant(alloc, &mut UnitOnly, 1);
+    let tuple = Text::tuple_variant(alloc, &mut UnitOnly::new(), 1);
     let want = "invalid type: unit variant, expected tuple variant";
     says(&rt, refusal(alloc, tuple), want)?;
-    let fields = Text::struct_variant(alloc, &mut UnitOnly, &Names::new(alloc));
+    let fields = Text::struct_variant(alloc, &mut UnitOnly::new(), &Names::new(alloc));
     let want = "invalid type: unit variant, expected struct variant";
     says(&rt, refusal(alloc, fields), want)
+}
+
+#[test]
+fn the_end_of_a_variant_is_taken_once(rt: HostRuntime) -> Result<(), Fail> {
+    let alloc = rt.alloc();
+    let mut variant = UnitOnly::new();
+    assert!(rt; Text::unit_variant(alloc, &mut variant).is_ok());
+    let again = Text::unit_variant(alloc, &mut variant);
+    says(&rt, refusal(alloc, again), "the payload was taken")
+}
+
+#[test]
+fn texts_are_read_as_people_write_them(rt: HostRuntime) -> Result<(), Fail> {
+    assert!(rt; text(rt.alloc(), "a")?.is_human_readable());
+    Ok(())
 }

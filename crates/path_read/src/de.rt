@@ -2,7 +2,7 @@
 ghost use Rattle.std.specs.Prelude.{◌≡◌, ◌≢◌, true, OnOk};
 ghost use Rattle.data_core.specs.Show.{shown_offer, Begins};
 ghost use Rattle.data_core.specs.Tracking.{Leaves, marked};
-ghost use Rattle.path_read.specs.Tracked.{inner_of, source_of, sequence_of, table_of, choice_of};
+ghost use Rattle.path_read.specs.Tracked.{inner_of, source_of, sequence_of, table_of, choice_of, key_text_of, name_text_of};
 
 use crate::map::{TrackedMap, caught_text, segment_of};
 use crate::variant::{TrackedVariant, leave_name, payload_segment};
@@ -41,7 +41,8 @@ fn track_inside<D: data_core::Deserializer>(
 ) -> Shown<Deserializer<D>>
     ensures offer { shown_offer D.Text.text D.Bytes.bytes (source_of D.source) (sequence_of D.sequence) (table_of D.table) (choice_of D.choice) result
         ≡ shown_offer D.Text.text D.Bytes.bytes D.source D.sequence D.table D.choice shown }
-    ensures begins { Begins D.sequence D.table shown → Begins (sequence_of D.sequence) (table_of D.table) result }
+    ensures begins { Begins D.sequence D.table D.key_text D.name_text shown
+        → Begins (sequence_of D.sequence) (table_of D.table) key_text_of name_text_of result }
 {
     match shown {
         Shown::Scalar(scalar) => Shown::Scalar(scalar),
@@ -106,6 +107,8 @@ impl<D: data_core::Deserializer> data_core::Deserializer for Deserializer<D> {
 
     ghost tracks = { true };
 
+    ghost human_readable = { D.human_readable };
+
     ghost source = { source_of D.source };
 
     ghost sequence = { sequence_of D.sequence };
@@ -113,6 +116,14 @@ impl<D: data_core::Deserializer> data_core::Deserializer for Deserializer<D> {
     ghost table = { table_of D.table };
 
     ghost choice = { choice_of D.choice };
+
+    ghost key_text = { key_text_of };
+
+    ghost name_text = { name_text_of };
+
+    fn is_human_readable(&self) -> bool {
+        self.inner.is_human_readable()
+    }
 
     fn show(self, hint: Hint<'_>) -> Result<Shown<Deserializer<D>>, D::Error> {
         let alloc = self.alloc;

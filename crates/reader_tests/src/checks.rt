@@ -28,14 +28,15 @@ pub(crate) fn texts(alloc: Global, texts: &[&str]) -> Result<Texts, AllocError> 
     let mut items = Vec::new(alloc);
     for text in texts {
         let text = String::from_str(alloc, text)?;
-        items.push(StringDeserializer::new(alloc, text))?;
+        items.push(StringDeserializer::new(text))?;
     }
     Ok(SeqDeserializer::new(items))
 }
 
 // What the reader of a type makes of what is shown.
 pub(crate) fn visited<T: Deserialize>(alloc: Global, shown: Shown<Texts>) -> Result<T, Error>
-    requires { Begins ⟦<Texts as Deserializer>⟧.sequence ⟦<Texts as Deserializer>⟧.table shown }
+    requires { Begins ⟦<Texts as Deserializer>⟧.sequence ⟦<Texts as Deserializer>⟧.table
+        ⟦<Texts as Deserializer>⟧.key_text ⟦<Texts as Deserializer>⟧.name_text shown }
 {
     let mut track = Track::new(alloc);
     match T::seed(alloc) {

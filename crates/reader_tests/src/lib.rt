@@ -11,6 +11,8 @@ mod scalars;
 #[cfg(test)]
 mod signed;
 #[cfg(test)]
+mod told;
+#[cfg(test)]
 mod tuples;
 #[cfg(test)]
 mod unsigned;

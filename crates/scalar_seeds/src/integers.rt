@@ -1,13 +1,15 @@
 //! Readers of integers.
-ghost use Rattle.std.specs.Prelude.{◌≡◌, ◌-◌, ◌^◌, ℤ, pos, negsuc, refl};
+ghost use Rattle.std.specs.Prelude.{◌≡◌, ◌-◌, ◌^◌, ℤ, pos, negsuc, refl, IfErr};
 ghost use Rattle.data_core.specs.Ask as asks;
 ghost use Rattle.data_core.specs.Ask.{Ask, ask};
 ghost use Rattle.data_core.specs.Source.{scalar};
 ghost use Rattle.data_core.specs.Source as offer;
 ghost use Rattle.data_core.specs.Show.{shown_offer};
 ghost use Rattle.data_core.specs.Outcome.{Answers};
+ghost use Rattle.data_core.specs.Refused.{IsSeenOf};
+ghost use Rattle.data_core.specs.Tracking.{clear};
 ghost use Rattle.scalar_seeds.specs.Integer.{IsMade};
-ghost use Rattle.data_core.specs.Reads.{IsOutcome};
+ghost use Rattle.data_core.specs.Reads.{IsOutcome, only_refusal};
 ghost use Rattle.scalar_seeds.specs.Scalars.{integer_of};
 
 use data_core::{
@@ -75,7 +77,13 @@ impl<N: Integer> DeserializeSeed for IntegerSeed<N> {
         visit_integer::<D, N>(alloc, shown)
     }
 
-    ghost passes_refusals = { λ _ _. refl };
+    ghost passes_refusals = { λ _ f. (refl, only_refusal N.number f) };
+
+    ghost quiet = { Unit {0} };
+
+    ghost placed = { Unit {0} };
+
+    ghost leaves = { λ _ _ now. now ≡ clear };
 }
 
 // What a reader of that integer type makes of an integer of up to 64 bits, and of what it does not take.
@@ -83,8 +91,9 @@ pub(crate) fn visit_integer<D: Deserializer, N: Integer>(
     alloc: Global,
     shown: Shown<D>,
 ) -> Result<N, D::Error>
-    ensures { Answers D.Error.fault N.number result
+    ensures answers { Answers D.Error.fault N.number result
         (integer_of N.least N.greatest (shown_offer D.Text.text D.Bytes.bytes D.source D.sequence D.table D.choice shown)) }
+    ensures sees { IfErr result (λ e. IsSeenOf (D.Error.saw e) (shown_offer D.Text.text D.Bytes.bytes D.source D.sequence D.table D.choice shown)) }
 {
     match shown {
         Shown::Scalar(Scalar::U8(n)) => unsigned::<D, N>(alloc, u64::from(n)),
@@ -101,8 +110,9 @@ pub(crate) fn visit_integer<D: Deserializer, N: Integer>(
 
 // An integer that was shown as an unsigned one.
 fn unsigned<D: Deserializer, N: Integer>(alloc: Global, n: u64) -> Result<N, D::Error>
-    ensures { Answers D.Error.fault N.number result
-        (integer_of N.least N.greatest (scalar (offer.unsigned n))) }
+    ensures answers { Answers D.Error.fault N.number result
+        (integer_of N.least N.greatest (scalar (offer.unsigned offer.w64 n))) }
+    ensures sees { IfErr result (λ e. IsSeenOf (D.Error.saw e) (scalar (offer.unsigned offer.w64 n))) }
 {
     match N::from_unsigned(n) {
         Some(n) => Ok(n),
@@ -112,8 +122,9 @@ fn unsigned<D: Deserializer, N: Integer>(alloc: Global, n: u64) -> Result<N, D::
 
 // An integer that was shown as a signed one.
 fn signed<D: Deserializer, N: Integer>(alloc: Global, n: i64) -> Result<N, D::Error>
-    ensures { Answers D.Error.fault N.number result
-        (integer_of N.least N.greatest (scalar (offer.signed n))) }
+    ensures answers { Answers D.Error.fault N.number result
+        (integer_of N.least N.greatest (scalar (offer.signed offer.w64 n))) }
+    ensures sees { IfErr result (λ e. IsSeenOf (D.Error.saw e) (scalar (offer.signed offer.w64 n))) }
 {
     match N::from_signed(n) {
         Some(n) => Ok(n),

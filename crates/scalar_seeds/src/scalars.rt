@@ -1,10 +1,12 @@
 //! Readers of booleans, characters, texts and units.
-ghost use Rattle.std.specs.Prelude.{refl, string_bytes};
+ghost use Rattle.std.specs.Prelude.{◌≡◌, refl, string_bytes, IfErr};
 ghost use Rattle.data_core.specs.Ask as asks;
 ghost use Rattle.data_core.specs.Source.{scalar};
 ghost use Rattle.data_core.specs.Source as offer;
 ghost use Rattle.data_core.specs.Outcome.{Answers};
-ghost use Rattle.data_core.specs.Reads.{IsOutcome};
+ghost use Rattle.data_core.specs.Refused.{IsSeenOf};
+ghost use Rattle.data_core.specs.Tracking.{clear};
+ghost use Rattle.data_core.specs.Reads.{IsOutcome, only_refusal};
 ghost use Rattle.scalar_seeds.specs.Scalars.{boolean_of, character_of, text_of, unit_of};
 
 use data_core::{
@@ -40,7 +42,13 @@ impl DeserializeSeed for BoolSeed {
         }
     }
 
-    ghost passes_refusals = { λ _ _. refl };
+    ghost passes_refusals = { λ _ f. (refl, only_refusal (λ b. b) f) };
+
+    ghost quiet = { Unit {0} };
+
+    ghost placed = { Unit {0} };
+
+    ghost leaves = { λ _ _ now. now ≡ clear };
 }
 
 /// The reader of `()`: it takes a unit.
@@ -70,7 +78,13 @@ impl DeserializeSeed for UnitSeed {
         }
     }
 
-    ghost passes_refusals = { λ _ _. refl };
+    ghost passes_refusals = { λ _ f. (refl, only_refusal (λ u. u) f) };
+
+    ghost quiet = { Unit {0} };
+
+    ghost placed = { Unit {0} };
+
+    ghost leaves = { λ _ _ now. now ≡ clear };
 }
 
 /// The reader of `char`: it takes a character, or a text of exactly one.
@@ -101,12 +115,19 @@ impl DeserializeSeed for CharSeed {
         }
     }
 
-    ghost passes_refusals = { λ _ _. refl };
+    ghost passes_refusals = { λ _ f. (refl, only_refusal (λ c. c) f) };
+
+    ghost quiet = { Unit {0} };
+
+    ghost placed = { Unit {0} };
+
+    ghost leaves = { λ _ _ now. now ≡ clear };
 }
 
 // The character of a text of exactly one.
 fn char_of_text<D: Deserializer>(alloc: Global, text: &str) -> Result<char, D::Error>
-    ensures { Answers D.Error.fault (λ c. c) result (character_of (scalar (offer.text text.now))) }
+    ensures answers { Answers D.Error.fault (λ c. c) result (character_of (scalar (offer.text text.now))) }
+    ensures sees { IfErr result (λ e. IsSeenOf (D.Error.saw e) (scalar (offer.text text.now))) }
 {
     match only_char(text) {
         Some(c) => Ok(c),
@@ -150,7 +171,13 @@ impl DeserializeSeed for StringSeed {
         }
     }
 
-    ghost passes_refusals = { λ _ _. refl };
+    ghost passes_refusals = { λ _ f. (refl, only_refusal string_bytes f) };
+
+    ghost quiet = { Unit {0} };
+
+    ghost placed = { Unit {0} };
+
+    ghost leaves = { λ _ _ now. now ≡ clear };
 }
 
 // A character as the text of it alone.
@@ -166,7 +193,8 @@ fn text_of_char<D: Deserializer>(alloc: Global, c: char) -> Result<String, D::Er
 
 // Bytes as the text that they spell. They are moved.
 fn text_of_bytes<D: Deserializer>(alloc: Global, bytes: Vec<u8>) -> Result<String, D::Error>
-    ensures { Answers D.Error.fault string_bytes result (text_of (scalar (offer.bytes bytes.items))) }
+    ensures answers { Answers D.Error.fault string_bytes result (text_of (scalar (offer.bytes bytes.items))) }
+    ensures sees { IfErr result (λ e. IsSeenOf (D.Error.saw e) (scalar (offer.bytes bytes.items))) }
 {
     match String::from_utf8(bytes) {
         Ok(text) => Ok(text),

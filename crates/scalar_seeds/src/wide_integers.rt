@@ -1,12 +1,14 @@
 //! Readers of the integers of 128 bits.
-ghost use Rattle.std.specs.Prelude.{◌-◌, ◌^◌, pos, negsuc, refl};
+ghost use Rattle.std.specs.Prelude.{◌-◌, ◌^◌, ◌≡◌, pos, negsuc, refl, IfErr};
 ghost use Rattle.data_core.specs.Ask as asks;
 ghost use Rattle.data_core.specs.Source.{scalar};
 ghost use Rattle.data_core.specs.Source as offer;
 ghost use Rattle.data_core.specs.Show.{shown_offer};
 ghost use Rattle.data_core.specs.Outcome.{Answers};
+ghost use Rattle.data_core.specs.Refused.{IsSeenOf};
+ghost use Rattle.data_core.specs.Tracking.{clear};
 ghost use Rattle.scalar_seeds.specs.Integer.{IsMade};
-ghost use Rattle.data_core.specs.Reads.{IsOutcome};
+ghost use Rattle.data_core.specs.Reads.{IsOutcome, only_refusal};
 ghost use Rattle.scalar_seeds.specs.Scalars.{wide_of};
 
 use crate::integers::{Integer, visit_integer};
@@ -58,15 +60,22 @@ impl<N: WideInteger> DeserializeSeed for WideIntegerSeed<N> {
         visit_wide::<D, N>(alloc, shown)
     }
 
-    ghost passes_refusals = { λ _ _. refl };
+    ghost passes_refusals = { λ _ f. (refl, only_refusal N.number f) };
+
+    ghost quiet = { Unit {0} };
+
+    ghost placed = { Unit {0} };
+
+    ghost leaves = { λ _ _ now. now ≡ clear };
 }
 
 fn visit_wide<D: Deserializer, N: WideInteger>(
     alloc: Global,
     shown: Shown<D>,
 ) -> Result<N, D::Error>
-    ensures { Answers D.Error.fault N.number result
+    ensures answers { Answers D.Error.fault N.number result
         (wide_of N.least N.greatest (shown_offer D.Text.text D.Bytes.bytes D.source D.sequence D.table D.choice shown)) }
+    ensures sees { IfErr result (λ e. IsSeenOf (D.Error.saw e) (shown_offer D.Text.text D.Bytes.bytes D.source D.sequence D.table D.choice shown)) }
 {
     match shown {
         Shown::Scalar(Scalar::U128(n)) => wide_unsigned::<D, N>(alloc, n),
@@ -77,7 +86,8 @@ fn visit_wide<D: Deserializer, N: WideInteger>(
 
 // An integer that was shown as an unsigned one of 128 bits.
 fn wide_unsigned<D: Deserializer, N: WideInteger>(alloc: Global, n: u128) -> Result<N, D::Error>
-    ensures { Answers D.Error.fault N.number result (wide_of N.least N.greatest (scalar (offer.wide (pos n)))) }
+    ensures answers { Answers D.Error.fault N.number result (wide_of N.least N.greatest (scalar (offer.wide_unsigned n))) }
+    ensures sees { IfErr result (λ e. IsSeenOf (D.Error.saw e) (scalar (offer.wide_unsigned n))) }
 {
     match N::from_wide_unsigned(n) {
         Some(n) => Ok(n),
@@ -87,7 +97,8 @@ fn wide_unsigned<D: Deserializer, N: WideInteger>(alloc: Global, n: u128) -> Res
 
 // An integer that was shown as a signed one of 128 bits.
 fn wide_signed<D: Deserializer, N: WideInteger>(alloc: Global, n: i128) -> Result<N, D::Error>
-    ensures { Answers D.Error.fault N.number result (wide_of N.least N.greatest (scalar (offer.wide n))) }
+    ensures answers { Answers D.Error.fault N.number result (wide_of N.least N.greatest (scalar (offer.wide_signed n))) }
+    ensures sees { IfErr result (λ e. IsSeenOf (D.Error.saw e) (scalar (offer.wide_signed n))) }
 {
     match N::from_wide_signed(n) {
         Some(n) => Ok(n),

@@ -3,6 +3,6 @@
 
 mod de;
 
-pub use de::{deserialize, deserialize_seed};
+pub use de::{deserialize, deserialize_seed, deserialize_told};
 pub use path_core::{Error, Path, Segment, Segments, Track};
 pub use path_read::Deserializer;

@@ -6,4 +6,5 @@ pub mod Readings
 pub mod Captures
 pub mod Shown
 pub mod Variants
-pub mod OneRefusal
+pub mod Recaptured
+pub mod Equal

@@ -7,10 +7,10 @@ use Rattle.value_error.specs.ErrorView.{fault_of}
 use Rattle.serde_value.specs.Reading.{FaultAmong, ReadsAmong}
 use Rattle.value_error.specs.declared.error.DeserializerError.{DeserializerError}
 
-fault_among : {A : Type 0} (tracks : Bool) (f : Option Fault) (is_outcome : Outcome A → Type 0) (old new : Refusal) → RefusedAmong tracks f is_outcome old new → FaultAmong f is_outcome
-fault_among tracks None is_outcome old new h = tt
-fault_among tracks (Some f) is_outcome old new h = (h.0, h.1)
+fault_among : {A : Type 0} (placed : Type 0) (tracks : Bool) (f : Option Fault) (is_outcome : Outcome A → Type 0) (old new : Refusal) → RefusedAmong placed tracks f is_outcome old new → FaultAmong f is_outcome
+fault_among placed tracks None is_outcome old new h = tt
+fault_among placed tracks (Some f) is_outcome old new h = (h.0, h.1)
 
-pub reads_among : {A : Type 0} (tracks : Bool) (r : Result A DeserializerError) (is_outcome : Outcome A → Type 0) (old new : Refusal) → Among fault_of tracks r is_outcome old new → ReadsAmong r is_outcome
-reads_among tracks (Ok a) is_outcome old new h = h.0
-reads_among tracks (Err e) is_outcome old new h = fault_among tracks (fault_of e) is_outcome old new h
+pub reads_among : {A : Type 0} (placed : Type 0) (tracks : Bool) (r : Result A DeserializerError) (is_outcome : Outcome A → Type 0) (old new : Refusal) → Among fault_of placed tracks r is_outcome old new → ReadsAmong r is_outcome
+reads_among placed tracks (Ok a) is_outcome old new h = h
+reads_among placed tracks (Err e) is_outcome old new h = fault_among placed tracks (fault_of e) is_outcome old new h

@@ -1,75 +1,73 @@
--- The trees that are captured of a source: what each offers is what the source does. The width of an
--- integer is the deserializer's choice, which a source does not tell.
-use Rattle.std.specs.Prelude.{◌≡◌, ◌⊎◌, ℕ, ◌+◌, max, List, [], ◌∷◌, Option, Some, None}
+-- The tree that is captured of a source, or the first fault with the path to it.
+use Rattle.std.specs.Prelude.{ℕ, ◌+◌, max, List, [], ◌∷◌, Option, Some, None}
+use Rattle.data_core.specs.declared.path.Segment.{Segment}
 use Rattle.data_core.specs.declared.path.Segment.TheVariants.{Seq}
 use Rattle.data_core.specs.Ask.{any}
-use Rattle.data_core.specs.Source.{Source, source, Offer, Scalar, wide, scalar, some_itself, elements, newtype_itself, newtype_struct, entries, variant_itself, variant, Sources, end, more, Entries, no_entries, entry}
+use Rattle.data_core.specs.Source.{Source, source, Offer, Scalar, w8, w16, w32, w64, wide_unsigned, wide_signed, scalar, some_itself, elements, newtype_itself, newtype_struct, entries, variant_itself, variant, Sources, end, more, Entries, no_entries, entry}
 use Rattle.data_core.specs.Source as offer
 use Rattle.data_core.specs.Table.{segment_of_key}
-use Rattle.data_core.specs.Node.{Node, some, newtype, seq, nodes_of, plain}
+use Rattle.data_core.specs.Node.{Node, some, newtype, seq, nodes_of}
+use Rattle.data_core.specs.Node as node
 use Rattle.data_core.specs.Order.{node_order}
-use Rattle.data_core.specs.Outcome.{Outcome, given, refused, IsUnder, not_taken}
+use Rattle.data_core.specs.Outcome.{Outcome, given, refused, under, and_then, not_taken}
 use Rattle.sorted_pairs.specs.Pairs.{put_all}
-use Rattle.data_core.specs.Reads.{AtKey, AndThen}
-use Rattle.serde_value.specs.View.{node_view, map_node}
-use Rattle.serde_value.specs.declared.value.Value.{Value}
+use Rattle.data_std.specs.Ignored.{at_key}
+use Rattle.serde_value.specs.View.{map_node}
 
--- a scalar is a tree that offers it; one of 128 bits is refused
-abbrev pub CapturesScalar : Scalar → Outcome Node → Type 0
-CapturesScalar (wide z) outcome = outcome ≡ not_taken (scalar (wide z))
-CapturesScalar s (given n) = plain n ≡ scalar s
-CapturesScalar s (refused f path) = ⊥
+-- a scalar is the tree that shows it, of its own width; one of 128 bits is refused
+abbrev pub captured_scalar : Scalar → Outcome Node
+captured_scalar (offer.boolean b) = given (node.boolean b)
+captured_scalar (offer.unsigned w8 n) = given (node.u8 n)
+captured_scalar (offer.unsigned w16 n) = given (node.u16 n)
+captured_scalar (offer.unsigned w32 n) = given (node.u32 n)
+captured_scalar (offer.unsigned w64 n) = given (node.u64 n)
+captured_scalar (offer.signed w8 z) = given (node.i8 z)
+captured_scalar (offer.signed w16 z) = given (node.i16 z)
+captured_scalar (offer.signed w32 z) = given (node.i32 z)
+captured_scalar (offer.signed w64 z) = given (node.i64 z)
+captured_scalar (wide_unsigned n) = not_taken (scalar (wide_unsigned n))
+captured_scalar (wide_signed z) = not_taken (scalar (wide_signed z))
+captured_scalar (offer.character c) = given (node.character c)
+captured_scalar (offer.text t) = given (node.string t)
+captured_scalar (offer.bytes b) = given (node.bytes b)
+captured_scalar offer.none = given node.none
+captured_scalar offer.unit = given node.unit
 
-abbrev pub pair_before : Node → Node → List (Node × Node) → List (Node × Node)
-pair_before a b ps = (a, b) ∷ ps
+-- a key and then its value, both at the segment of their entry
+abbrev pub captured_pair : Segment → Outcome Node → Outcome Node → Outcome (Node × Node)
+captured_pair segment key value = and_then (at_key segment key) (λ a. and_then (under segment value) (λ b. given (a, b)))
 
 abbrev mutual
   -- at this ask no source stands for its own inside, so each part is a smaller source
-  pub Captures : Source → Outcome Node → Type 0
-  Captures (source offers) outcome = CapturesOffer (offers any) outcome
+  pub captured : Source → Outcome Node
+  captured (source offers) = captured_offer (offers any)
 
-  pub CapturesOffer : Offer → Outcome Node → Type 0
-  CapturesOffer (scalar s) outcome = CapturesScalar s outcome
-  CapturesOffer some_itself outcome = ⊥
-  CapturesOffer (offer.some s) outcome = AndThen (λ o. Captures s o) (λ n o. o ≡ given (some n)) outcome
-  CapturesOffer (elements checks ss) outcome = AndThen (λ o. CapturesAll 0 ss o) (λ ns o. o ≡ given (seq (nodes_of ns))) outcome
-  CapturesOffer newtype_itself outcome = ⊥
-  CapturesOffer (newtype_struct s) outcome = AndThen (λ o. Captures s o) (λ n o. o ≡ given (newtype n)) outcome
-  CapturesOffer (entries checks es) outcome = AndThen (λ o. CapturesPairs es o) (λ ps o. o ≡ given (map_node (put_all node_order [] ps))) outcome
-  CapturesOffer (variant_itself payload) outcome = ⊥
-  CapturesOffer (variant name payload) outcome = outcome ≡ not_taken (variant name payload)
-  CapturesOffer (offer.refused f) outcome = outcome ≡ refused f []
+  pub captured_offer : Offer → Outcome Node
+  captured_offer (scalar s) = captured_scalar s
+  captured_offer some_itself = not_taken some_itself
+  captured_offer (offer.some s) = and_then (captured s) (λ n. given (some n))
+  captured_offer (elements checks ss) = and_then (captured_all 0 ss) (λ ns. given (seq (nodes_of ns)))
+  captured_offer newtype_itself = not_taken newtype_itself
+  captured_offer (newtype_struct s) = and_then (captured s) (λ n. given (newtype n))
+  captured_offer (entries checks es) = and_then (captured_pairs es) (λ ps. given (map_node (put_all node_order [] ps)))
+  captured_offer (variant_itself payload) = not_taken (variant_itself payload)
+  captured_offer (variant name payload) = not_taken (variant name payload)
+  captured_offer (offer.refused f) = refused f []
 
   -- each element in turn, from a place in the sequence on, up to the first fault
-  pub CapturesAll : ℕ → Sources → Outcome (List Node) → Type 0
-  CapturesAll i end outcome = outcome ≡ given []
-  CapturesAll i (more s ss) outcome =
-      AndThen (IsUnder (Seq i) (λ o. Captures s o)) (λ n. AndThen (λ o. CapturesAll (i + 1) ss o) (λ ns o. o ≡ given (n ∷ ns))) outcome
+  pub captured_all : ℕ → Sources → Outcome (List Node)
+  captured_all i end = given []
+  captured_all i (more s ss) = and_then (under (Seq i) (captured s)) (λ n. and_then (captured_all (i + 1) ss) (λ ns. given (n ∷ ns)))
 
   -- each entry in turn, its key and then its value, up to the first fault
-  pub CapturesPairs : Entries → Outcome (List (Node × Node)) → Type 0
-  CapturesPairs no_entries outcome = outcome ≡ given []
-  CapturesPairs (entry k v es) outcome =
-      AndThen (AtKey (segment_of_key any k) (λ o. Captures k o))
-      (λ a. AndThen (IsUnder (segment_of_key any k) (λ o. Captures v o)) (λ b. AndThen (λ o. CapturesPairs es o) (λ ps o. o ≡ given (pair_before a b ps)))) outcome
+  pub captured_pairs : Entries → Outcome (List (Node × Node))
+  captured_pairs no_entries = given []
+  captured_pairs (entry k v es) =
+      and_then (captured_pair (segment_of_key any k) (captured k) (captured v)) (λ p. and_then (captured_pairs es) (λ ps. given (p ∷ ps)))
 
 -- the entries that are left, as the pairs of a map
-abbrev pub CapturesTable : Entries → Outcome (List (Node × Node)) → Type 0
-CapturesTable es = AndThen (CapturesPairs es) (λ ps o. o ≡ given (put_all node_order [] ps))
-
--- the next entry, and nothing where none is left
-abbrev pub NextPair : Entries → Outcome (Option (Value × Value)) → Type 0
-NextPair no_entries outcome = outcome ≡ given None
-NextPair (entry k v es) (given None) = ⊥
-NextPair (entry k v es) (given (Some p)) = Captures k (given (node_view p.0)) × Captures v (given (node_view p.1))
-NextPair (entry k v es) (refused f path) =
-    AtKey (segment_of_key any k) (λ o. Captures k o) (refused f path)
-    ⊎ ((n : Node) × Captures k (given n) × IsUnder (segment_of_key any k) (λ o. Captures v o) (refused f path))
-
--- what was handed out, seen through a view
-abbrev pub seen : {A B : Type 0} → (B → A) → Outcome B → Outcome A
-seen view (given b) = given (view b)
-seen view (refused f path) = refused f path
+abbrev pub captured_table : Entries → Outcome (List (Node × Node))
+captured_table es = and_then (captured_pairs es) (λ ps. given (put_all node_order [] ps))
 
 abbrev mutual
   -- how deep a source is that is captured

@@ -5,3 +5,4 @@ pub mod Fed
 pub mod Reading
 pub mod Captured
 pub mod Seen
+pub mod InOrder

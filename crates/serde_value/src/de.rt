@@ -1,13 +1,14 @@
 //! Deserializers over trees.
-ghost use Rattle.std.specs.Prelude.{◌≡◌, ◌+◌, ◌^◌, true, false, Some, None, IsOk, IsSome, OnErr, OnOk};
+ghost use Rattle.std.specs.Prelude.{◌≡◌, ◌+◌, ◌^◌, true, false, Some, None, IsOk, IsSome, OnErr};
 ghost use Rattle.data_core.specs.Fault.{IsCalled};
 ghost use Rattle.data_core.specs.Node.{of_nodes, of_pairs, nodes_of, pairs_of, plain};
-ghost use Rattle.data_core.specs.Refused.{fault_of};
+ghost use Rattle.data_core.specs.Refused.{IsSeenOf, fault_of};
 ghost use Rattle.data_core.specs.Source.{count, count_entries};
-ghost use Rattle.data_core.specs.Sequence.{Takes, Ends, surplus};
-ghost use Rattle.data_core.specs.Table.{TakesKey, TakesValue, value_taken, surplus_entries};
+ghost use Rattle.data_core.specs.Took.{Took};
+ghost use Rattle.data_core.specs.Sequence.{Takes, Ends, one_taken, surplus};
+ghost use Rattle.data_core.specs.Table.{TakesKey, TakesValue, key_taken, value_taken, surplus_entries};
 ghost use Rattle.serde_value.specs.View.{node_view};
-ghost use Rattle.serde_value.specs.Deserializer.{value_of, source_of, sequence_of, table_of, choice_of};
+ghost use Rattle.serde_value.specs.Deserializer.{value_of, source_of, sequence_of, table_of, choice_of, no_key_text, no_name_text};
 
 use crate::show::{show_enum, show_newtype, show_option, show_plain};
 use crate::value::{Items, Value, ValueMap};
@@ -89,6 +90,7 @@ impl<E: DeError> ValueEntries<E> {
     pub(crate) fn new(alloc: Global, map: ValueMap, checks: bool) -> ValueEntries<E>
         ensures left { (table_of result).left ≡ of_pairs (pairs_of map) }
         ensures taken { (table_of result).taken ≡ 0 }
+        ensures waiting { (table_of result).waiting ≡ None }
         ensures checks { (table_of result).checks ≡ checks }
     {
         ValueEntries {
@@ -117,6 +119,8 @@ impl<E: DeError> Deserializer for ValueDeserializer<E> {
 
     ghost tracks = { false };
 
+    ghost human_readable = { true };
+
     ghost source = { source_of };
 
     ghost sequence = { sequence_of };
@@ -124,6 +128,14 @@ impl<E: DeError> Deserializer for ValueDeserializer<E> {
     ghost table = { table_of };
 
     ghost choice = { choice_of };
+
+    ghost key_text = { no_key_text };
+
+    ghost name_text = { no_name_text };
+
+    fn is_human_readable(&self) -> bool {
+        true
+    }
 
     fn show(self, hint: Hint<'_>) -> Result<Shown<ValueDeserializer<E>>, E> {
         match hint {
@@ -139,14 +151,16 @@ impl<E: DeError> Deserializer for ValueDeserializer<E> {
     }
 
     fn next_element(seq: &mut ValueElements<E>) -> Result<Option<ValueDeserializer<E>>, E>
-        ensures takes { Takes source_of E.fault result (sequence_of seq.old) (sequence_of seq.new) }
+        ensures takes { Takes source_of E.fault result (sequence_of seq.old).left (sequence_of seq.new).left }
+        ensures took { Took E.fault result (sequence_of seq.old) (one_taken (sequence_of seq.old)) (sequence_of seq.new) }
         ensures full { OnErr result ((sequence_of seq.old).taken + 1 ≡ 2 ^ 64) }
     {
-        let Some(value) = seq.rest.next() else {
-            return Ok(None);
-        };
+        // Where the count has no room, nothing is taken.
         let Some(taken) = seq.taken.checked_add(1) else {
             return Err(E::memory());
+        };
+        let Some(value) = seq.rest.next() else {
+            return Ok(None);
         };
         seq.taken = taken;
         Ok(Some(ValueDeserializer::new(seq.alloc, value)))
@@ -186,15 +200,17 @@ impl<E: DeError> Deserializer for ValueDeserializer<E> {
 
     fn next_key(map: &mut ValueEntries<E>) -> Result<Option<ValueDeserializer<E>>, E>
         ensures takes { TakesKey source_of E.fault result (table_of map.old) (table_of map.new) }
-        ensures checks { (table_of map.new).checks ≡ (table_of map.old).checks }
+        ensures took { Took E.fault result (table_of map.old) (key_taken (table_of map.old)) (table_of map.new) }
+        ensures caught { no_key_text map.new ≡ None }
         ensures full { OnErr result ((table_of map.old).taken + 1 ≡ 2 ^ 64) }
     {
+        // Where the count has no room, nothing is taken.
+        let Some(taken) = map.taken.checked_add(1) else {
+            return Err(E::memory());
+        };
         map.waiting = None;
         let Some((key, value)) = map.rest.next() else {
             return Ok(None);
-        };
-        let Some(taken) = map.taken.checked_add(1) else {
-            return Err(E::memory());
         };
         map.taken = taken;
         map.waiting = Some(value);
@@ -221,7 +237,8 @@ impl<E: DeError> Deserializer for ValueDeserializer<E> {
     fn next_value(map: &mut ValueEntries<E>) -> Result<ValueDeserializer<E>, E>
         requires { IsSome (table_of map.old).waiting }
         ensures takes { TakesValue source_of E.fault result (table_of map.old).waiting }
-        ensures table { OnOk result (table_of map.new ≡ value_taken (table_of map.old)) }
+        ensures took { Took E.fault result (table_of map.old) (value_taken (table_of map.old)) (table_of map.new) }
+        ensures caught { no_key_text map.new ≡ no_key_text map.old }
         ensures given { IsOk result }
     {
         match map.waiting.take() {
@@ -278,7 +295,7 @@ impl<E: DeError> Deserializer for ValueDeserializer<E> {
     }
 
     fn unit_variant(alloc: Global, variant: &mut ValueVariant<E>) -> Result<(), E> {
-        match variant.payload.take() {
+        match variant.take(alloc)? {
             None | Some(Value::Unit) => Ok(()),
             Some(other) => Err(refused_unit(alloc, other)),
         }
@@ -289,7 +306,7 @@ impl<E: DeError> Deserializer for ValueDeserializer<E> {
         alloc: Global,
         variant: &mut ValueVariant<E>,
     ) -> Result<ValueDeserializer<E>, E> {
-        match variant.payload.take() {
+        match variant.take(alloc)? {
             Some(value) => Ok(ValueDeserializer::new(alloc, value)),
             None => Err(E::invalid_type(alloc, Unexpected::UnitVariant, "newtype variant")),
         }
@@ -300,7 +317,7 @@ impl<E: DeError> Deserializer for ValueDeserializer<E> {
         variant: &mut ValueVariant<E>,
         _len: usize,
     ) -> Result<ValueElements<E>, E> {
-        match variant.payload.take() {
+        match variant.take(alloc)? {
             Some(Value::Seq(items)) => Ok(ValueElements::new(alloc, items)),
             Some(other) => Err(E::invalid_type(alloc, other.unexpected(), "tuple variant")),
             None => Err(E::invalid_type(alloc, Unexpected::UnitVariant, "tuple variant")),
@@ -312,7 +329,7 @@ impl<E: DeError> Deserializer for ValueDeserializer<E> {
         variant: &mut ValueVariant<E>,
         _fields: &Names,
     ) -> Result<ValueEntries<E>, E> {
-        match variant.payload.take() {
+        match variant.take(alloc)? {
             Some(Value::Map(map)) => Ok(ValueEntries::new(alloc, map, true)),
             Some(other) => Err(E::invalid_type(alloc, other.unexpected(), "struct variant")),
             None => Err(E::invalid_type(alloc, Unexpected::UnitVariant, "struct variant")),
@@ -331,7 +348,8 @@ impl<E: DeError> Deserializer for ValueDeserializer<E> {
 
 // The refusal of a tree that is to be a unit. A character is seen as its text.
 fn refused_unit<E: DeError>(alloc: Global, value: Value) -> E
-    ensures { IsCalled (E.fault result) (fault_of (plain (node_view value))) }
+    ensures called { IsCalled (E.fault result) (fault_of (plain (node_view value))) }
+    ensures sees { IsSeenOf (E.saw result) (plain (node_view value)) }
 {
     match value {
         Value::Char(c) => {

@@ -13,6 +13,7 @@ mod order;
 mod reading;
 mod seen;
 mod show;
+mod told;
 mod traits;
 mod value;
 mod variant;

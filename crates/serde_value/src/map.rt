@@ -6,7 +6,7 @@ ghost use Rattle.serde_value.specs.View.{node_view, pair_view};
 
 use crate::map_iter::ValueMapIter;
 use crate::value::{Value, ValueMap};
-use sorted_pairs::{Steps, place};
+use sorted_pairs::{Steps, place_of_key};
 use std::alloc::Global;
 use std::marker::Brand;
 use std::mem;
@@ -82,7 +82,7 @@ impl ValueMap {
         ensures cost { 2 ^ (steps.new - steps.old) ≤ 2 * length self.now + 1 }
         ensures never_falls { steps.old ≤ steps.new }
     {
-        match place(self.pairs.as_slice(), key, steps) {
+        match place_of_key(self.pairs.as_slice(), key, steps) {
             Ok(i) => Some(&self.pairs[i].1),
             Err(_) => None,
         }
@@ -118,7 +118,7 @@ impl ValueMap {
         ensures cost { 2 ^ (steps.new - steps.old) ≤ 2 * length self.old + 1 }
         ensures never_falls { steps.old ≤ steps.new }
     {
-        match place(self.pairs.as_slice(), &key, steps) {
+        match place_of_key(self.pairs.as_slice(), &key, steps) {
             Ok(i) => {
                 drop(key);
                 Ok(Some(mem::replace(&mut self.pairs[i].1, value)))

@@ -1,6 +1,7 @@
 //! The pairs of a map, one after another.
-ghost use Rattle.std.specs.Prelude.{◌≡◌, map};
-ghost use Rattle.std.specs.Iterator.{YieldsFirstBy, YieldsLastBy, item_count};
+ghost use Rattle.std.specs.Prelude.{◌≡◌, IfSome, length, map};
+ghost use Rattle.std.specs.Iterator.{YieldsFirstBy, YieldsLastBy, item_count, UpTo};
+ghost use Rattle.std.specs.Iterator.SizeHint.{IsWithinCount, IsExactHint};
 ghost use Rattle.serde_value.specs.View.{node_view};
 
 use crate::value::{Value, ValueMap};
@@ -52,7 +53,11 @@ impl<'a> Iterator for ValueMapIter<'a> {
         Some((&first.0, &first.1))
     }
 
-    fn size_hint(&self) -> (usize, Option<usize>) {
+    fn size_hint(&self) -> (usize, Option<usize>)
+        ensures lower { IsWithinCount result.0 (item_count (λ left. left) self.now) }
+        ensures upper { IfSome result.1 (UpTo (item_count (λ left. left) self.now)) }
+        ensures exact { IsExactHint result (length self.now) }
+    {
         let len = self.pairs.len();
         (len, Some(len))
     }

@@ -1,8 +1,13 @@
 //! The reading of trees.
+ghost use Rattle.std.specs.Prelude.{◌≡◌, None, IfOk, IfErr};
 ghost use Rattle.data_core.specs.Node.{of_node};
+ghost use Rattle.data_core.specs.Outcome.{given};
 ghost use Rattle.data_core.specs.Source.{offer_of};
+ghost use Rattle.serde_value.specs.Captured.{captured};
+ghost use Rattle.serde_value.specs.InOrder.{IsInOrder};
 ghost use Rattle.serde_value.specs.Reading.{ReadsAmong};
 ghost use Rattle.serde_value.specs.View.{node_view};
+ghost use Rattle.value_error.specs.ErrorView.{fault_of};
 
 use crate::de::ValueDeserializer;
 use crate::value::Value;
@@ -21,5 +26,16 @@ impl Value {
         let mut track = Track::new(alloc);
         let d = ValueDeserializer::<DeserializerError>::new(alloc, self);
         data_std::deserialize(alloc, d, &mut track)
+    }
+
+    /// Captures the tree again, by the reader of trees. It is that very tree, since each of its maps has
+    /// its keys in order.
+    pub fn captured_again(self, alloc: Global) -> Result<Value, DeserializerError>
+        ensures itself { IfOk result (λ v. IsInOrder (node_view self) → node_view v ≡ node_view self) }
+        ensures memory { IfErr result (λ e. IsInOrder (node_view self) → fault_of e ≡ None) }
+        // What is captured of a tree whose maps stand by rising key is that tree.
+        ensures law { IsInOrder (node_view self) → captured (of_node (node_view self)) ≡ given (node_view self) }
+    {
+        self.deserialize_into::<Value>(alloc)
     }
 }

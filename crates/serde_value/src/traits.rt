@@ -1,6 +1,6 @@
 //! Trees, and maps of them, compare as serde_value has it. No comparison takes memory, and each
 //! recurses as deep as the tree.
-ghost use Rattle.std.specs.Prelude.{refl};
+ghost use Rattle.std.specs.Prelude.{◌≡◌, IsTrue, refl};
 ghost use Rattle.std.specs.Ordering.{eq_by_cmp, on, as_partial_cmp};
 ghost use Rattle.std.specs.Cmp.{eq_by_cmp_equiv, on_equiv, on_total, partial_equiv_from_equiv, partial_order_from_agreeing_total};
 ghost use Rattle.data_core.specs.Order.{node_order};
@@ -16,7 +16,10 @@ impl PartialEq for Value {
 
     ghost laws = { partial_equiv_from_equiv (on_equiv node_view (eq_by_cmp_equiv node_order_total)) };
 
-    fn eq(&self, other: &Value) -> bool {
+    fn eq(&self, other: &Value) -> bool
+        ensures value { result ≡ eq_by_cmp node_order (node_view self.now) (node_view other.now) }
+        ensures same { IsTrue result → node_view self.now ≡ node_view other.now }
+    {
         compare(self, other).is_eq()
     }
 }
@@ -54,7 +57,10 @@ impl PartialEq for ValueMap {
 
     ghost laws = { partial_equiv_from_equiv (on_equiv map_node (eq_by_cmp_equiv node_order_total)) };
 
-    fn eq(&self, other: &ValueMap) -> bool {
+    fn eq(&self, other: &ValueMap) -> bool
+        ensures value { result ≡ eq_by_cmp node_order (map_node self.now) (map_node other.now) }
+        ensures same { IsTrue result → map_node self.now ≡ map_node other.now }
+    {
         compare_maps(self, other).is_eq()
     }
 }

@@ -1,17 +1,19 @@
 //! The reader of trees.
-ghost use Rattle.std.specs.Prelude.{◌≡◌, ◌++◌, ◌∷◌, [], true, IfOk, IsSome, OnOk};
+ghost use Rattle.std.specs.Prelude.{◌≡◌, ◌++◌, ◌∷◌, [], true, Some, None, IsSome, OnOk};
 ghost use Rattle.data_core.specs.Ask.{any};
-ghost use Rattle.data_core.specs.Source.{offer_of};
-ghost use Rattle.data_core.specs.Sequence.{rest_of, place_after, IsNext};
-ghost use Rattle.data_core.specs.Table.{IsKey, IsValue, IsCaught, Catches, key_text, rest_of_entries, value_of, entry_segment, with_caught};
+ghost use Rattle.data_core.specs.Source.{Source, offer_of};
+ghost use Rattle.data_core.specs.Took.{Took};
+ghost use Rattle.data_core.specs.Table.{Catches, KeepsText, offer_text, value_taken, entry_segment, segment_of_key};
 ghost use Rattle.data_core.specs.Show.{shown_offer, scalar_view, Begins};
 ghost use Rattle.data_core.specs.Order.{node_order};
-ghost use Rattle.data_core.specs.Outcome.{Among};
-ghost use Rattle.sorted_pairs.specs.Pairs.{put};
-ghost use Rattle.data_core.specs.Tracking.{Refusal};
+ghost use Rattle.data_core.specs.Outcome.{under, Gives};
+ghost use Rattle.data_core.specs.Reads.{IsOutcome};
+ghost use Rattle.data_core.specs.Tracking.{Keeps, Refusal, clear};
 ghost use Rattle.data_core.specs.declared.path.Segment.{Segment};
-ghost use Rattle.serde_value.specs.Captured.{Captures, CapturesOffer, CapturesScalar, CapturesAll, CapturesTable, NextPair, seen};
-ghost use Rattle.serde_value.specs.View.{node_view};
+ghost use Rattle.data_std.specs.Ignored.{at_key};
+ghost use Rattle.sorted_pairs.specs.Pairs.{put};
+ghost use Rattle.serde_value.specs.Captured.{captured, captured_offer, captured_scalar, captured_all, captured_pair, captured_table};
+ghost use Rattle.serde_value.specs.View.{node_view, pair_view};
 
 use crate::value::{Held, Items, Value, ValueMap};
 use data_core::{
@@ -30,10 +32,17 @@ impl DeserializeSeed for ValueVisitor {
     type Value = Value;
 
     ghost use Rattle.std.specs.Prelude.{refl};
+    ghost use Rattle.data_core.specs.Reads.{only_refusal};
 
     ghost asks = { λ _. any };
 
-    ghost reads = { λ _ offer outcome. CapturesOffer offer (seen node_view outcome) };
+    ghost reads = { λ _ offer outcome. IsOutcome node_view (captured_offer offer) outcome };
+
+    ghost quiet = { Unit {0} };
+
+    ghost placed = { Unit {0} };
+
+    ghost leaves = { λ _ _ now. now ≡ clear };
 
     fn hint(&self) -> Hint<'_> {
         Hint::Any
@@ -48,7 +57,7 @@ impl DeserializeSeed for ValueVisitor {
         take_shown(alloc, shown, track)
     }
 
-    ghost passes_refusals = { λ _ _. refl };
+    ghost passes_refusals = { λ _ f. (refl, only_refusal node_view f) };
 }
 
 impl Deserialize for Value {
@@ -56,7 +65,9 @@ impl Deserialize for Value {
 
     ghost asks = { any };
 
-    ghost reads = { λ offer outcome. CapturesOffer offer (seen node_view outcome) };
+    ghost reads = { λ offer outcome. IsOutcome node_view (captured_offer offer) outcome };
+
+    ghost leaves = { λ _ now. now ≡ clear };
 
     fn seed(_alloc: Global) -> Result<ValueVisitor, AllocError> {
         Ok(ValueVisitor)
@@ -66,7 +77,8 @@ impl Deserialize for Value {
 // The tree of what a deserializer stands for.
 #[cycle(take)]
 fn take<D: Deserializer>(alloc: Global, d: D, track: &mut Track) -> Result<Value, D::Error>
-    ensures { Among D.Error.fault D.tracks result (λ o. Captures (D.source d) (seen node_view o)) track.old track.new }
+    ensures value { Gives D.Error.fault D.tracks node_view result (captured (D.source d)) track.old track.new }
+    ensures keeps { Keeps D.Error.fault (Unit {0}) D.tracks result track.old track.new }
 {
     let shown = d.show(Hint::Any)?;
     take_shown(alloc, shown, track)
@@ -79,9 +91,10 @@ fn take_shown<D: Deserializer>(
     shown: Shown<D>,
     track: &mut Track,
 ) -> Result<Value, D::Error>
-    requires { Begins D.sequence D.table shown }
-    ensures { Among D.Error.fault D.tracks result
-        (λ o. CapturesOffer (shown_offer D.Text.text D.Bytes.bytes D.source D.sequence D.table D.choice shown) (seen node_view o)) track.old track.new }
+    requires { Begins D.sequence D.table D.key_text D.name_text shown }
+    ensures value { Gives D.Error.fault D.tracks node_view result
+        (captured_offer (shown_offer D.Text.text D.Bytes.bytes D.source D.sequence D.table D.choice shown)) track.old track.new }
+    ensures keeps { Keeps D.Error.fault (Unit {0}) D.tracks result track.old track.new }
 {
     match shown {
         Shown::Scalar(scalar) => take_scalar::<D>(alloc, scalar),
@@ -100,8 +113,8 @@ fn take_scalar<D: Deserializer>(
     alloc: Global,
     scalar: Scalar<D::Text, D::Bytes>,
 ) -> Result<Value, D::Error>
-    ensures { (held : Refusal) → Among D.Error.fault D.tracks result
-        (λ o. CapturesScalar (scalar_view D.Text.text D.Bytes.bytes scalar) (seen node_view o)) held held }
+    ensures { (held : Refusal) → Gives D.Error.fault D.tracks node_view result
+        (captured_scalar (scalar_view D.Text.text D.Bytes.bytes scalar)) held held }
 {
     match scalar {
         Scalar::Bool(b) => Ok(Value::Bool(b)),
@@ -132,7 +145,8 @@ fn take_scalar<D: Deserializer>(
 // The tree of an inside, in a box.
 #[cycle(take)]
 fn take_held<D: Deserializer>(alloc: Global, d: D, track: &mut Track) -> Result<Held, D::Error>
-    ensures { Among D.Error.fault D.tracks result (Captures (D.source d)) track.old track.new }
+    ensures value { Gives D.Error.fault D.tracks (λ h. h) result (captured (D.source d)) track.old track.new }
+    ensures keeps { Keeps D.Error.fault (Unit {0}) D.tracks result track.old track.new }
 {
     let value = take(alloc, d, track)?;
     match Box::new(alloc, value) {
@@ -149,40 +163,21 @@ fn take_items<D: Deserializer>(
     seq: D::Seq,
     track: &mut Track,
 ) -> Result<Items, D::Error>
-    ensures { Among D.Error.fault D.tracks result
-        (CapturesAll (D.sequence seq).taken (D.sequence seq).left) track.old track.new }
+    ensures value { Gives D.Error.fault D.tracks (λ ns. ns) result
+        (captured_all (D.sequence seq).taken (D.sequence seq).left) track.old track.new }
+    ensures keeps { Keeps D.Error.fault (Unit {0}) D.tracks result track.old track.new }
 {
     let mut seq = seq;
     let mut items = Vec::new(alloc);
-    'elements: while let Some(item) = take_element::<D>(alloc, &mut seq, track)? {
-        if push_item(&mut items, item).is_err() {
+    'elements: while let Some(element) = D::next_element(&mut seq)? {
+        let before = track.holds();
+        let item = take(alloc, element, track);
+        D::leave_element(&mut seq, before, item.is_err(), track)?;
+        if push_item(&mut items, item?).is_err() {
             return Err(D::Error::memory());
         }
     }
     Ok(Items::from_vec(items))
-}
-
-// The tree of the next element, and nothing where none is left.
-#[cycle(take)]
-fn take_element<D: Deserializer>(
-    alloc: Global,
-    seq: &mut D::Seq,
-    track: &mut Track,
-) -> Result<Option<Value>, D::Error>
-    ensures reads { Among D.Error.fault D.tracks result
-        (IsNext (λ s o. Captures s (seen node_view o)) (D.sequence seq.old).taken (D.sequence seq.old).left)
-        track.old track.new }
-    ensures left { OnOk result ((D.sequence seq.new).left ≡ rest_of (D.sequence seq.old).left) }
-    ensures taken { OnOk result ((D.sequence seq.new).taken
-        ≡ place_after (D.sequence seq.old).left (D.sequence seq.old).taken) }
-{
-    let Some(element) = D::next_element(seq)? else {
-        return Ok(None);
-    };
-    let before = track.holds();
-    let value = take(alloc, element, track);
-    D::leave_element(seq, before, value.is_err(), track)?;
-    Ok(Some(value?))
 }
 
 fn push_item(items: &mut Vec<Value>, item: Value) -> Result<(), AllocError>
@@ -221,12 +216,13 @@ fn take_map<D: Deserializer>(
     map: D::Map,
     track: &mut Track,
 ) -> Result<ValueMap, D::Error>
-    ensures { Among D.Error.fault D.tracks result
-        (CapturesTable (D.table map).left) track.old track.new }
+    ensures value { Gives D.Error.fault D.tracks (λ ps. ps) result (captured_table (D.table map).left) track.old track.new }
+    ensures keeps { Keeps D.Error.fault (Unit {0}) D.tracks result track.old track.new }
 {
     let mut map = map;
     let mut pairs = ValueMap::new(alloc);
-    'entries: while let Some((key, value)) = take_entry::<D>(alloc, &mut map, track)? {
+    'entries: while let Some(key) = D::next_key(&mut map)? {
+        let (key, value) = take_entry(alloc, &mut map, key, track)?;
         if put_pair(&mut pairs, key, value).is_err() {
             return Err(D::Error::memory());
         }
@@ -234,48 +230,47 @@ fn take_map<D: Deserializer>(
     Ok(pairs)
 }
 
-// The trees of the next entry, and nothing where none is left.
+// The trees of the key that was taken last and of the value that waits.
 #[cycle(take)]
-#[tactic(auto, using(crate::proofs::Captures::shallow))]
 fn take_entry<D: Deserializer>(
     alloc: Global,
     map: &mut D::Map,
+    key: D,
     track: &mut Track,
-) -> Result<Option<(Value, Value)>, D::Error>
-    ensures reads { Among D.Error.fault D.tracks result (NextPair (D.table map.old).left) track.old track.new }
-    ensures left { OnOk result ((D.table map.new).left ≡ rest_of_entries (D.table map.old).left) }
+) -> Result<(Value, Value), D::Error>
+    requires { IsSome (D.table map.old).waiting }
+    ensures value { (v : Source) → (D.table map.old).waiting ≡ Some v → Gives D.Error.fault D.tracks pair_view result
+        (captured_pair (segment_of_key any (D.source key)) (captured (D.source key)) (captured v)) track.old track.new }
+    ensures keeps { Keeps D.Error.fault (Unit {0}) D.tracks result track.old track.new }
+    ensures took { OnOk result (D.table map.new ≡ value_taken (D.table map.old)) }
 {
-    let Some(key) = take_key::<D>(alloc, map, track)? else {
-        return Ok(None);
-    };
+    let key = take_key(alloc, map, key, track)?;
     let value = take_value::<D>(alloc, map, track)?;
-    Ok(Some((key, value)))
+    Ok((key, value))
 }
 
-// The tree of the next key, and nothing where none is left.
+// The tree of the key that was taken last.
 #[cycle(take)]
 fn take_key<D: Deserializer>(
     alloc: Global,
     map: &mut D::Map,
+    key: D,
     track: &mut Track,
-) -> Result<Option<Value>, D::Error>
-    ensures reads { Among D.Error.fault D.tracks result
-        (IsKey any (λ s o. Captures s (seen node_view o)) (D.table map.old).left) track.old track.new }
-    ensures left { OnOk result ((D.table map.new).left ≡ rest_of_entries (D.table map.old).left) }
-    ensures waiting { OnOk result ((D.table map.new).waiting ≡ value_of (D.table map.old).left) }
-    ensures ready { IfOk result (λ key. IsSome key → IsSome (D.table map.new).waiting) }
-    ensures caught { D.tracks ≡ true → OnOk result (IsCaught any (D.table map.old).left (D.table map.new).caught) }
+) -> Result<Value, D::Error>
+    ensures value { Gives D.Error.fault D.tracks node_view result
+        (at_key (segment_of_key any (D.source key)) (captured (D.source key))) track.old track.new }
+    ensures keeps { Keeps D.Error.fault (Unit {0}) D.tracks result track.old track.new }
+    ensures caught { D.tracks ≡ true → KeepsText D.Error.fault result (offer_text (offer_of (D.source key) any))
+        (D.key_text map.new) }
+    ensures table { D.table map.new ≡ D.table map.old }
 {
-    let Some(key) = D::next_key(map)? else {
-        return Ok(None);
-    };
     let before = track.holds();
     let value = visit_key(alloc, map, key, track);
     D::leave_key(map, before, value.is_err(), track)?;
-    Ok(Some(value?))
+    value
 }
 
-// The tree of the key that was taken last.
+// The tree of what the key shows.
 #[cycle(take)]
 fn visit_key<D: Deserializer>(
     alloc: Global,
@@ -283,10 +278,11 @@ fn visit_key<D: Deserializer>(
     key: D,
     track: &mut Track,
 ) -> Result<Value, D::Error>
-    ensures reads { Among D.Error.fault D.tracks result (λ o. Captures (D.source key) (seen node_view o)) track.old track.new }
-    ensures caught { D.tracks ≡ true → Catches D.Error.fault result (D.table map.new).caught
-        (key_text (offer_of (D.source key) any)) }
-    ensures table { D.table map.new ≡ with_caught (D.table map.new).caught (D.table map.old) }
+    ensures value { Gives D.Error.fault D.tracks node_view result (captured (D.source key)) track.old track.new }
+    ensures keeps { Keeps D.Error.fault (Unit {0}) D.tracks result track.old track.new }
+    ensures caught { D.tracks ≡ true → Catches D.Error.fault result (offer_text (offer_of (D.source key) any))
+        (D.key_text map.new) }
+    ensures table { D.table map.new ≡ D.table map.old }
 {
     let shown = D::show_key(map, key, Hint::Any)?;
     take_shown(alloc, shown, track)
@@ -300,10 +296,11 @@ fn take_value<D: Deserializer>(
     track: &mut Track,
 ) -> Result<Value, D::Error>
     requires { IsSome (D.table map.old).waiting }
-    ensures reads { (segment : Segment) → (D.tracks ≡ true → segment ≡ entry_segment (D.table map.old).caught)
-        → Among D.Error.fault D.tracks result
-        (IsValue segment (λ s o. Captures s (seen node_view o)) (D.table map.old).waiting) track.old track.new }
-    ensures left { OnOk result ((D.table map.new).left ≡ (D.table map.old).left) }
+    ensures value { (segment : Segment) → (D.tracks ≡ true → segment ≡ entry_segment (D.key_text map.old))
+        → (v : Source) → (D.table map.old).waiting ≡ Some v → Gives D.Error.fault D.tracks node_view result
+        (under segment (captured v)) track.old track.new }
+    ensures keeps { Keeps D.Error.fault (Unit {0}) D.tracks result track.old track.new }
+    ensures took { Took D.Error.fault result (D.table map.old) (value_taken (D.table map.old)) (D.table map.new) }
 {
     let value = D::next_value(map)?;
     let before = track.holds();

@@ -1,5 +1,5 @@
 -- Names beside what they name, place by place.
-use Rattle.std.proofs.Common.{◌≡◌, ℕ, zero, suc, ◌+◌, ◌<◌, ◌≤◌, min, Bool, true, false, List, [], ◌∷◌, length, slice_get, take, map, Option, Some, None, bytes_eq, Contains, ap, refl, arith}
+use Rattle.std.proofs.Common.{◌≡◌, ℕ, zero, suc, ◌+◌, ◌<◌, ◌≤◌, min, Bool, true, false, List, [], ◌∷◌, length, slice_get, get_or, take, map, Option, Some, None, option_map, bytes_eq, Contains, ap, refl, arith}
 use Rattle.std.proofs.lemmas.List.{take_all}
 use Rattle.std.proofs.lemmas.Slice.Eq.{bytes_eq-Decides}
 use Rattle.shape.specs.Names.{paired, place_in}
@@ -15,6 +15,24 @@ names_of_paired view [] [] = refl
 names_of_paired view [] (a ∷ rest) = refl
 names_of_paired view (n ∷ names) [] = refl
 names_of_paired view (n ∷ names) (a ∷ rest) = ap (λ others. n ∷ others) (names_of_paired view names rest)
+
+-- what stands at a place, and that nothing does past the end
+
+pub paired_at : {A B : Type 0} (view : A → B) (names : List (List ℕ)) (all : List A) (i : ℕ) (a : A) → i < length (paired view names all) → a ≡ get_or all i a
+    → Some (view a) ≡ option_map (λ p. p.1) (slice_get (paired view names all) i)
+paired_at view [] all i a h is = absurd (omega arith)
+paired_at view (n ∷ names) [] i a h is = absurd (omega arith)
+paired_at view (n ∷ names) (b ∷ rest) zero a h is = ap (λ x. Some (view x)) is
+paired_at view (n ∷ names) (b ∷ rest) (suc i) a h is = paired_at view names rest i a (omega arith) is
+
+pub paired_past : {A B : Type 0} (view : A → B) (names : List (List ℕ)) (all : List A) (i : ℕ) → length (paired view names all) ≤ i
+    → None ≡ option_map (λ p. p.1) (slice_get (paired view names all) i)
+paired_past view [] all i h = refl
+paired_past view (n ∷ names) [] i h = refl
+paired_past view (n ∷ names) (b ∷ rest) zero h = absurd (omega arith)
+paired_past view (n ∷ names) (b ∷ rest) (suc i) h = paired_past view names rest i (omega arith)
+
+pub ruleset places = (length_paired, paired_at, paired_past)
 
 -- the place of a name
 

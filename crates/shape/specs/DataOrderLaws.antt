@@ -1,12 +1,12 @@
--- The order of data is total.
-use Rattle.std.specs.Prelude.{◌≡◌, [], ◌∷◌, refl}
+-- The order of data is total, and data that are equal in it are the same.
+use Rattle.std.specs.Prelude.{◌≡◌, Bool, true, IsTrue, [], ◌∷◌, refl}
 use Rattle.std.specs.declared.cmp.Ordering.{Ordering}
 use Rattle.std.specs.declared.cmp.Ordering.TheVariants.{Less, Equal, Greater}
-use Rattle.std.specs.Ordering.{ordering_then, nat_cmp}
+use Rattle.std.specs.Ordering.{ordering_then, nat_cmp, is_eq}
 use Rattle.std.specs.Cmp.{IsTotalOrder}
-use Rattle.std.proofs.Common.{ap, ◌∙◌}
+use Rattle.std.proofs.Common.{ap, sym, ◌∙◌}
 use Rattle.data_core.specs.Rank.{Rank, rank, Ranks, no_ranks, more, rank_order, ranks_order, bit}
-use Rattle.data_core.specs.RankLaws.{total_by_rank, alone, alone_twice, bits}
+use Rattle.data_core.specs.RankLaws.{total_by_rank, alone, alone_twice, bits, both, same_bool, same_nat, same_int, same_list}
 use Rattle.shape.specs.Shape.{Data, boolean_data, unsigned, signed, character_data, text_data, bytes_data, unit_data, nothing, something, newtype_data, seq_data, map_data, struct_data, enum_data, Parts, no_parts, part, DataPairs, no_pairs, pair, PayloadData, unit_payload, newtype_payload, tuple_payload, struct_payload}
 use Rattle.shape.specs.DataOrder.{data_order, payload_order, parts_order, pairs_order}
 
@@ -95,3 +95,57 @@ payload_order_total = total_by_rank payload_order rank_of_payload payload_order-
 -- maps are ranked as a datum that holds them
 pub pairs_order_total : IsTotalOrder pairs_order
 pairs_order_total = total_by_rank pairs_order (λ ps. rank_of (map_data ps)) pairs_order-rank
+
+mutual
+  pub data_order_same : (a b : Data) → data_order a b ≡ Equal → a ≡ b
+  data_order_same (boolean_data a) (boolean_data b) h = ap boolean_data (same_bool a b h)
+  data_order_same (unsigned a) (unsigned b) h = ap unsigned (same_nat a b h)
+  data_order_same (signed a) (signed b) h = ap signed (same_int a b h)
+  data_order_same (character_data a) (character_data b) h = ap character_data (same_nat a b h)
+  data_order_same (text_data a) (text_data b) h = ap text_data (same_list a b h)
+  data_order_same (bytes_data a) (bytes_data b) h = ap bytes_data (same_list a b h)
+  data_order_same unit_data unit_data h = refl
+  data_order_same nothing nothing h = refl
+  data_order_same (something a) (something b) h = ap something (data_order_same a b h)
+  data_order_same (newtype_data a) (newtype_data b) h = ap newtype_data (data_order_same a b h)
+  data_order_same (seq_data a) (seq_data b) h = ap seq_data (parts_order_same a b h)
+  data_order_same (map_data a) (map_data b) h = ap map_data (pairs_order_same a b h)
+  data_order_same (struct_data a) (struct_data b) h = ap struct_data (parts_order_same a b h)
+  data_order_same (enum_data m a) (enum_data n b) h =
+      let p = both _ _ h in rw (same_nat m n p.0, payload_order_same a b p.1)
+  data_order_same a b h = cc
+
+  pub payload_order_same : (a b : PayloadData) → payload_order a b ≡ Equal → a ≡ b
+  payload_order_same unit_payload unit_payload h = refl
+  payload_order_same (newtype_payload a) (newtype_payload b) h = ap newtype_payload (data_order_same a b h)
+  payload_order_same (tuple_payload a) (tuple_payload b) h = ap tuple_payload (parts_order_same a b h)
+  payload_order_same (struct_payload a) (struct_payload b) h = ap struct_payload (parts_order_same a b h)
+  payload_order_same a b h = cc
+
+  pub parts_order_same : (a b : Parts) → parts_order a b ≡ Equal → a ≡ b
+  parts_order_same no_parts no_parts h = refl
+  parts_order_same no_parts (part b bs) h = cc
+  parts_order_same (part a rest) no_parts h = cc
+  parts_order_same (part a rest) (part b bs) h = let p = both _ _ h in rw (data_order_same a b p.0, parts_order_same rest bs p.1)
+
+  pub pairs_order_same : (a b : DataPairs) → pairs_order a b ≡ Equal → a ≡ b
+  pairs_order_same no_pairs no_pairs h = refl
+  pairs_order_same no_pairs (pair k v bs) h = cc
+  pairs_order_same (pair j u rest) no_pairs h = cc
+  pairs_order_same (pair j u rest) (pair k v bs) h =
+      let p = both _ _ h in let q = both _ _ p.1 in rw (data_order_same j k p.0, data_order_same u v q.0, pairs_order_same rest bs q.1)
+
+-- what compares as equal is the same
+equal_answer : (o : Ordering) → is_eq o ≡ true → o ≡ Equal
+equal_answer Equal h = refl
+equal_answer Less h = cc
+equal_answer Greater h = cc
+
+pub data_equal : (a b : Data) (o : Ordering) (answer : Bool) → o ≡ data_order a b → answer ≡ is_eq o → IsTrue answer → a ≡ b
+data_equal a b o answer e f h = data_order_same a b (sym e ∙ equal_answer o (sym f ∙ h))
+
+pub payload_equal : (a b : PayloadData) (o : Ordering) (answer : Bool) → o ≡ payload_order a b → answer ≡ is_eq o → IsTrue answer → a ≡ b
+payload_equal a b o answer e f h = payload_order_same a b (sym e ∙ equal_answer o (sym f ∙ h))
+
+pub pairs_equal : (a b : DataPairs) (o : Ordering) (answer : Bool) → o ≡ pairs_order a b → answer ≡ is_eq o → IsTrue answer → a ≡ b
+pairs_equal a b o answer e f h = pairs_order_same a b (sym e ∙ equal_answer o (sym f ∙ h))

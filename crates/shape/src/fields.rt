@@ -1,7 +1,7 @@
 //! The fields of a struct.
-ghost use Rattle.std.specs.Prelude.{◌≡◌, ◌++◌, ◌∷◌, ◌==◌, [], length, OnOk, IfErr};
+ghost use Rattle.std.specs.Prelude.{◌≡◌, ◌++◌, ◌∷◌, ◌==◌, [], length, option_map, slice_get, OnOk, IfErr};
 ghost use Rattle.shape.specs.Names.{place_of_name};
-ghost use Rattle.shape.specs.View.{fields_view};
+ghost use Rattle.shape.specs.View.{shape_view, fields_view};
 
 use crate::names::{place_among, push_both};
 use crate::shapes::{Fields, Shape};
@@ -58,6 +58,18 @@ impl Fields {
         ensures { result.now ≡ self.now.shapes.items }
     {
         self.shapes.as_slice()
+    }
+
+    /// The shape of the field at a place, counted from 0, and none past the end. Takes no memory.
+    #[tactic(auto, using(crate::proofs::Places::places))]
+    pub fn shape(&self, place: usize) -> Option<&Shape>
+        ensures { option_map (λ shape. shape_view shape.now) result ≡ option_map (λ field. field.1) (slice_get (fields_view self.now) place) }
+    {
+        if place < self.len() {
+            Some(&self.shapes[place])
+        } else {
+            None
+        }
     }
 
     /// The place of the first field of a name, counted from 0. Takes no memory.

@@ -1,6 +1,7 @@
 //! The pairs of a map, one after another.
-ghost use Rattle.std.specs.Prelude.{◌≡◌, map};
-ghost use Rattle.std.specs.Iterator.{YieldsFirstBy, item_count};
+ghost use Rattle.std.specs.Prelude.{◌≡◌, IfSome, length, map};
+ghost use Rattle.std.specs.Iterator.{YieldsFirstBy, item_count, UpTo};
+ghost use Rattle.std.specs.Iterator.SizeHint.{IsWithinCount, IsExactHint};
 ghost use Rattle.shape.specs.View.{pair_view, lent_pair_view};
 
 use crate::data::{Data, DataMap};
@@ -49,7 +50,11 @@ impl<'a> Iterator for DataMapIter<'a> {
         Some((&first.0, &first.1))
     }
 
-    fn size_hint(&self) -> (usize, Option<usize>) {
+    fn size_hint(&self) -> (usize, Option<usize>)
+        ensures lower { IsWithinCount result.0 (item_count (λ left. left) self.now) }
+        ensures upper { IfSome result.1 (UpTo (item_count (λ left. left) self.now)) }
+        ensures exact { IsExactHint result (length self.now) }
+    {
         let len = self.pairs.len();
         (len, Some(len))
     }

@@ -1,5 +1,5 @@
 //! Data compare by their order.
-ghost use Rattle.std.specs.Prelude.{refl};
+ghost use Rattle.std.specs.Prelude.{◌≡◌, IsTrue, refl};
 ghost use Rattle.std.specs.Ordering.{eq_by_cmp, on, as_partial_cmp};
 ghost use Rattle.std.specs.Cmp.{eq_by_cmp_equiv, on_equiv, on_total, partial_equiv_from_equiv, partial_order_from_agreeing_total};
 ghost use Rattle.shape.specs.Shape.{pairs_of};
@@ -17,7 +17,11 @@ impl PartialEq for Data {
 
     ghost laws = { partial_equiv_from_equiv (on_equiv data_view (eq_by_cmp_equiv data_order_total)) };
 
-    fn eq(&self, other: &Data) -> bool {
+    #[tactic(auto, using(crate::specs::DataOrderLaws::data_equal))]
+    fn eq(&self, other: &Data) -> bool
+        ensures value { result ≡ eq_by_cmp data_order (data_view self.now) (data_view other.now) }
+        ensures same { IsTrue result → data_view self.now ≡ data_view other.now }
+    {
         compare(self, other).is_eq()
     }
 }
@@ -56,7 +60,11 @@ impl PartialEq for Payload {
 
     ghost laws = { partial_equiv_from_equiv (on_equiv payload_view (eq_by_cmp_equiv payload_order_total)) };
 
-    fn eq(&self, other: &Payload) -> bool {
+    #[tactic(auto, using(crate::specs::DataOrderLaws::payload_equal))]
+    fn eq(&self, other: &Payload) -> bool
+        ensures value { result ≡ eq_by_cmp payload_order (payload_view self.now) (payload_view other.now) }
+        ensures same { IsTrue result → payload_view self.now ≡ payload_view other.now }
+    {
         compare_payloads(self, other).is_eq()
     }
 }
@@ -96,7 +104,11 @@ impl PartialEq for DataMap {
 
     ghost laws = { partial_equiv_from_equiv (on_equiv pairs_of (eq_by_cmp_equiv pairs_order_total)) };
 
-    fn eq(&self, other: &DataMap) -> bool {
+    #[tactic(auto, using(crate::specs::DataOrderLaws::pairs_equal))]
+    fn eq(&self, other: &DataMap) -> bool
+        ensures value { result ≡ eq_by_cmp pairs_order (pairs_of self.now) (pairs_of other.now) }
+        ensures same { IsTrue result → pairs_of self.now ≡ pairs_of other.now }
+    {
         compare_maps(self, other).is_eq()
     }
 }

@@ -1,7 +1,7 @@
 //! The variants of an enum.
-ghost use Rattle.std.specs.Prelude.{◌≡◌, ◌++◌, ◌∷◌, ◌==◌, [], length, OnOk, IfErr};
+ghost use Rattle.std.specs.Prelude.{◌≡◌, ◌++◌, ◌∷◌, ◌==◌, [], length, option_map, slice_get, OnOk, IfErr};
 ghost use Rattle.shape.specs.Names.{place_of_name};
-ghost use Rattle.shape.specs.View.{variants_view};
+ghost use Rattle.shape.specs.View.{variant_shape_view, variants_view};
 
 use crate::names::{place_among, push_both};
 use crate::shapes::{VariantShape, Variants};
@@ -58,6 +58,19 @@ impl Variants {
         ensures { result.now ≡ self.now.shapes.items }
     {
         self.shapes.as_slice()
+    }
+
+    /// The shape of the payload of the variant at a place, counted from 0, and none past the end.
+    /// Takes no memory.
+    #[tactic(auto, using(crate::proofs::Places::places))]
+    pub fn shape(&self, place: usize) -> Option<&VariantShape>
+        ensures { option_map (λ shape. variant_shape_view shape.now) result ≡ option_map (λ variant. variant.1) (slice_get (variants_view self.now) place) }
+    {
+        if place < self.len() {
+            Some(&self.shapes[place])
+        } else {
+            None
+        }
     }
 
     /// The place of the first variant of a name, counted from 0. Takes no memory.

@@ -79,16 +79,16 @@ up_to : (greatest n : ℕ) (f : Fault) (d : Data) → (if nat_le n greatest then
 up_to greatest n f d e = let w = where_true (nat_le n greatest) (unsigned n) f d e in (n, w.1, leb-true n greatest w.0)
 
 unsigned_is : (greatest : ℕ) (o : Offer) (d : Data) → unsigned_of greatest o ≡ given d → IsUnsigned greatest d
-unsigned_is greatest (scalar (offer.unsigned n)) d e = up_to greatest n (InvalidValue kind.Unsigned) d e
-unsigned_is greatest (scalar (offer.signed (pos n))) d e = up_to greatest n (InvalidValue kind.Signed) d e
+unsigned_is greatest (scalar (offer.unsigned width n)) d e = up_to greatest n (InvalidValue kind.Unsigned) d e
+unsigned_is greatest (scalar (offer.signed width (pos n))) d e = up_to greatest n (InvalidValue kind.Signed) d e
 unsigned_is greatest o d e = absurd (cc)
 
 in_range : (greatest : ℕ) (z : ℤ) (f : Fault) (d : Data) → (if within greatest z then given (signed z) else refused f []) ≡ given d → IsSigned greatest d
 in_range greatest z f d e = let w = where_true (within greatest z) (signed z) f d e in (z, w.1, w.0)
 
 signed_is : (greatest : ℕ) (o : Offer) (d : Data) → signed_of greatest o ≡ given d → IsSigned greatest d
-signed_is greatest (scalar (offer.unsigned n)) d e = in_range greatest (pos n) (InvalidValue kind.Unsigned) d e
-signed_is greatest (scalar (offer.signed z)) d e = in_range greatest z (InvalidValue kind.Signed) d e
+signed_is greatest (scalar (offer.unsigned width n)) d e = in_range greatest (pos n) (InvalidValue kind.Unsigned) d e
+signed_is greatest (scalar (offer.signed width z)) d e = in_range greatest z (InvalidValue kind.Signed) d e
 signed_is greatest o d e = absurd (cc)
 
 character_from_is : (c : Option ℕ) (d : Data) → character_from c ≡ given d → (c : ℕ) × (d ≡ character_data c)

@@ -7,7 +7,7 @@ use Rattle.data_core.specs.declared.fault.Fault.TheVariants.{InvalidLength}
 use Rattle.data_core.specs.declared.path.Segment.{Segment}
 use Rattle.data_core.specs.declared.path.Segment.TheVariants.{Seq}
 use Rattle.data_core.specs.Source.{Source, Sources, end, more}
-use Rattle.data_core.specs.Sequence.{rest_of, place_after, Ends}
+use Rattle.data_core.specs.Sequence.{Sequence, rest_of, place_after, Ends}
 use Rattle.data_core.specs.Tracking.{Refusal, clear}
 use Rattle.data_core.specs.Outcome.{Outcome, given, refused, under, and_then, IsRefused}
 use Rattle.data_core.proofs.Refusals.{Carries, IsRefused-here}
@@ -19,7 +19,7 @@ use Rattle.shape.specs.declared.data.Data as code
 use Rattle.shape.specs.declared.shapes.Shape.{Shape}
 use Rattle.shape.specs.View.{shape_view, data_view}
 use Rattle.shape_read.specs.Readers.{readers_of}
-use Rattle.shape_read.specs.Steps.{next_of, one_each, beyond}
+use Rattle.shape_read.specs.Steps.{next_of, one_each, beyond, row_taken}
 
 -- what was read before an outcome
 
@@ -87,6 +87,16 @@ pub beyond_step : (read : Source → Outcome Data) (reads : List (Source → Out
     → beyond (read ∷ reads) ss ≡ beyond reads (rest_of ss)
 beyond_step read reads i end d e = cc
 beyond_step read reads i (more s ss) d e = refl
+
+same_sequence : (ss tt : Sources) (i j : ℕ) (b c t u : Bool) → ss ≡ tt → i ≡ j → b ≡ c → t ≡ u
+    → (let one : Sequence = record { left = ss; taken = i; checks = b; tells = t } in let other : Sequence = record { left = tt; taken = j; checks = c; tells = u } in one ≡ other)
+same_sequence ss tt i j b c t u e f g h = rw (e, f, g, h) refl
+
+-- an element was taken for each reader
+pub row_done : (reads : List (Source → Outcome Data)) (begun now : Sequence) → now.left ≡ beyond reads begun.left → now.taken ≡ length reads → now.checks ≡ begun.checks → now.tells ≡ begun.tells
+    → now ≡ row_taken reads begun
+row_done reads begun now left taken checks tells =
+    same_sequence now.left (beyond reads begun.left) now.taken (length reads) now.checks begun.checks now.tells begun.tells left taken checks tells
 
 -- the next reader and those after it
 pub readers_at : (shapes : List Shape) (i : ℕ) (a : Shape) → i < length shapes → a ≡ get_or shapes i a

@@ -34,9 +34,9 @@ boolean_of o = not_taken o
 
 -- an integer of up to 64 bits, from 0 up to the greatest
 abbrev pub unsigned_of : ℕ → Offer → Outcome Data
-unsigned_of greatest (scalar (offer.unsigned n)) = if nat_le n greatest then given (unsigned n) else refused (InvalidValue kind.Unsigned) []
-unsigned_of greatest (scalar (offer.signed (pos n))) = if nat_le n greatest then given (unsigned n) else refused (InvalidValue kind.Signed) []
-unsigned_of greatest (scalar (offer.signed (negsuc n))) = refused (InvalidValue kind.Signed) []
+unsigned_of greatest (scalar (offer.unsigned width n)) = if nat_le n greatest then given (unsigned n) else refused (InvalidValue kind.Unsigned) []
+unsigned_of greatest (scalar (offer.signed width (pos n))) = if nat_le n greatest then given (unsigned n) else refused (InvalidValue kind.Signed) []
+unsigned_of greatest (scalar (offer.signed width (negsuc n))) = refused (InvalidValue kind.Signed) []
 unsigned_of greatest o = not_taken o
 
 -- from - greatest - 1 up to the greatest
@@ -46,8 +46,8 @@ within greatest (negsuc n) = nat_le n greatest
 
 -- an integer of up to 64 bits in that range
 abbrev pub signed_of : ℕ → Offer → Outcome Data
-signed_of greatest (scalar (offer.unsigned n)) = if nat_le n greatest then given (signed (pos n)) else refused (InvalidValue kind.Unsigned) []
-signed_of greatest (scalar (offer.signed z)) = if within greatest z then given (signed z) else refused (InvalidValue kind.Signed) []
+signed_of greatest (scalar (offer.unsigned width n)) = if nat_le n greatest then given (signed (pos n)) else refused (InvalidValue kind.Unsigned) []
+signed_of greatest (scalar (offer.signed width z)) = if within greatest z then given (signed z) else refused (InvalidValue kind.Signed) []
 signed_of greatest o = not_taken o
 
 -- the character of a text, where it has exactly one

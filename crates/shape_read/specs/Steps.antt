@@ -1,7 +1,8 @@
 -- The steps of a reader through a sequence.
-use Rattle.std.specs.Prelude.{ℕ, List, [], ◌∷◌, Option, Some, None, Vec, map}
+use Rattle.std.specs.Prelude.{ℕ, List, [], ◌∷◌, Option, Some, None, Vec, length, map}
 use Rattle.data_core.specs.declared.path.Segment.TheVariants.{Seq}
 use Rattle.data_core.specs.Source.{Source, Sources, end, more}
+use Rattle.data_core.specs.Sequence.{Sequence}
 use Rattle.data_core.specs.Outcome.{Outcome, given, under, and_then}
 use Rattle.std.specs.declared.alloc.Global.{Global}
 use Rattle.shape.specs.Shape as spec
@@ -23,6 +24,10 @@ abbrev pub beyond : List (Source → Outcome spec.Data) → Sources → Sources
 beyond [] ss = ss
 beyond (read ∷ reads) end = end
 beyond (read ∷ reads) (more s ss) = beyond reads ss
+
+-- a sequence that began, after an element for each reader was taken of it
+abbrev pub row_taken : List (Source → Outcome spec.Data) → Sequence → Sequence
+row_taken reads s = record { left = beyond reads s.left; taken = length reads; checks = s.checks; tells = s.tells }
 
 -- what was read, in order
 abbrev pub all_viewed : Vec Data Global → List spec.Data

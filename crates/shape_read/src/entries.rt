@@ -1,9 +1,11 @@
 //! Readers of maps.
 ghost use Rattle.std.specs.Prelude.{◌≡◌, true, [], Some, OnOk, IsSome};
 ghost use Rattle.data_core.specs.Source.{Source, offer_of};
-ghost use Rattle.data_core.specs.Table.{Catches, key_text, with_caught, entry_segment, segment_of_key};
+ghost use Rattle.data_core.specs.Table.{Catches, offer_text, value_taken, entry_segment, segment_of_key};
 ghost use Rattle.data_core.specs.declared.path.Segment.{Segment};
 ghost use Rattle.data_core.specs.Show.{shown_offer};
+ghost use Rattle.data_core.specs.Took.{Took};
+ghost use Rattle.data_core.specs.Tracking.{Keeps};
 ghost use Rattle.data_core.specs.Outcome.{under, Gives};
 ghost use Rattle.data_std.specs.Ignored.{at_key};
 ghost use Rattle.shape_read.specs.Parts.{each_entry};
@@ -24,10 +26,11 @@ pub fn visit_map<D: Deserializer>(
     shown: Shown<D>,
     track: &mut Track,
 ) -> Result<Data, D::Error>
-    ensures { Gives D.Error.fault D.tracks data_view result
+    ensures value { Gives D.Error.fault D.tracks data_view result
         (map_of (asks (shape_view shapes.now.key)) (first (shape_view shapes.now.key)) (first (shape_view shapes.now.value))
         (shown_offer D.Text.text D.Bytes.bytes D.source D.sequence D.table D.choice shown))
         track.old track.new }
+    ensures keeps { Keeps D.Error.fault (Unit {0}) D.tracks result track.old track.new }
 {
     match shown {
         Shown::Map(map) => {
@@ -47,10 +50,11 @@ fn read_entries<D: Deserializer>(
     map: &mut D::Map,
     track: &mut Track,
 ) -> Result<DataMap, D::Error>
-    ensures { Gives D.Error.fault D.tracks (λ pairs. pairs) result
+    ensures value { Gives D.Error.fault D.tracks (λ pairs. pairs) result
         (each_entry (pair_step (asks (shape_view shapes.now.key)) (first (shape_view shapes.now.key)) (first (shape_view shapes.now.value)))
         [] (D.table map.old).left)
         track.old track.new }
+    ensures keeps { Keeps D.Error.fault (Unit {0}) D.tracks result track.old track.new }
 {
     let mut pairs = DataMap::new(alloc);
     'reads: while let Some(key) = D::next_key(map)? {
@@ -76,7 +80,8 @@ fn read_entry<D: Deserializer>(
         (pair_of (segment_of_key (asks (shape_view shapes.now.key)) (D.source key))
         (first (shape_view shapes.now.key) (D.source key)) (first (shape_view shapes.now.value) v))
         track.old track.new }
-    ensures left { OnOk result ((D.table map.new).left ≡ (D.table map.old).left) }
+    ensures took { OnOk result (D.table map.new ≡ value_taken (D.table map.old)) }
+    ensures keeps { Keeps D.Error.fault (Unit {0}) D.tracks result track.old track.new }
 {
     let key = read_key(alloc, &shapes.key, map, key, track)?;
     let value = read_value::<D>(alloc, &shapes.value, map, track)?;
@@ -95,8 +100,9 @@ fn read_key<D: Deserializer>(
     ensures value { Gives D.Error.fault D.tracks data_view result
         (at_key (segment_of_key (asks (shape_view shape.now)) (D.source key)) (first (shape_view shape.now) (D.source key)))
         track.old track.new }
-    ensures caught { D.tracks ≡ true → OnOk result ((D.table map.new).caught ≡ key_text (offer_of (D.source key) (asks (shape_view shape.now)))) }
-    ensures table { OnOk result (D.table map.new ≡ with_caught (D.table map.new).caught (D.table map.old)) }
+    ensures caught { D.tracks ≡ true → OnOk result (D.key_text map.new ≡ offer_text (offer_of (D.source key) (asks (shape_view shape.now)))) }
+    ensures table { D.table map.new ≡ D.table map.old }
+    ensures keeps { Keeps D.Error.fault (Unit {0}) D.tracks result track.old track.new }
 {
     let before = track.holds();
     let read = visit_key(alloc, shape, map, key, track);
@@ -115,9 +121,10 @@ fn visit_key<D: Deserializer>(
     track: &mut Track,
 ) -> Result<Data, D::Error>
     ensures value { Gives D.Error.fault D.tracks data_view result (first (shape_view shape.now) (D.source key)) track.old track.new }
-    ensures caught { D.tracks ≡ true → Catches D.Error.fault result (D.table map.new).caught
-        (key_text (offer_of (D.source key) (asks (shape_view shape.now)))) }
-    ensures table { D.table map.new ≡ with_caught (D.table map.new).caught (D.table map.old) }
+    ensures caught { D.tracks ≡ true → Catches D.Error.fault result
+        (offer_text (offer_of (D.source key) (asks (shape_view shape.now)))) (D.key_text map.new) }
+    ensures table { D.table map.new ≡ D.table map.old }
+    ensures keeps { Keeps D.Error.fault (Unit {0}) D.tracks result track.old track.new }
 {
     let shown = D::show_key(map, key, hint(shape))?;
     visit(alloc, shape, shown, track)
@@ -132,10 +139,11 @@ pub fn read_value<D: Deserializer>(
     track: &mut Track,
 ) -> Result<Data, D::Error>
     requires { IsSome (D.table map.old).waiting }
-    ensures value { (segment : Segment) → (D.tracks ≡ true → segment ≡ entry_segment (D.table map.old).caught)
+    ensures value { (segment : Segment) → (D.tracks ≡ true → segment ≡ entry_segment (D.key_text map.old))
         → (v : Source) → (D.table map.old).waiting ≡ Some v → Gives D.Error.fault D.tracks data_view result
         (under segment (first (shape_view shape.now) v)) track.old track.new }
-    ensures left { OnOk result ((D.table map.new).left ≡ (D.table map.old).left) }
+    ensures took { Took D.Error.fault result (D.table map.old) (value_taken (D.table map.old)) (D.table map.new) }
+    ensures keeps { Keeps D.Error.fault (Unit {0}) D.tracks result track.old track.new }
 {
     let value = D::next_value(map)?;
     let before = track.holds();

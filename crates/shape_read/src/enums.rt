@@ -4,10 +4,11 @@ ghost use Rattle.data_core.specs.Ask.{identifier};
 ghost use Rattle.data_core.specs.Wanted as wanted;
 ghost use Rattle.data_core.specs.Source.{offer_of};
 ghost use Rattle.data_core.specs.Source as offer;
-ghost use Rattle.data_core.specs.Table.{Catches, key_text};
-ghost use Rattle.data_core.specs.Choice.{name_caught, variant_segment};
+ghost use Rattle.data_core.specs.Table.{Catches, offer_text};
+ghost use Rattle.data_core.specs.Choice.{variant_segment};
 ghost use Rattle.data_core.specs.declared.path.Segment.{Segment};
 ghost use Rattle.data_core.specs.Show.{shown_offer};
+ghost use Rattle.data_core.specs.Tracking.{Keeps};
 ghost use Rattle.data_core.specs.Outcome.{under, bare, Answers, Gives};
 ghost use Rattle.shape_read.specs.Variants.{place_of_variant, known_variant, variant_place};
 ghost use Rattle.shape_read.specs.First.{first, enum_of, newtype_payload_of, tuple_payload_of, struct_payload_of, visited_payload};
@@ -29,9 +30,10 @@ pub fn visit_enum<D: Deserializer>(
     shown: Shown<D>,
     track: &mut Track,
 ) -> Result<Data, D::Error>
-    ensures { Gives D.Error.fault D.tracks data_view result
+    ensures value { Gives D.Error.fault D.tracks data_view result
         (enum_of (variants_in variants.now) (shown_offer D.Text.text D.Bytes.bytes D.source D.sequence D.table D.choice shown))
         track.old track.new }
+    ensures keeps { Keeps D.Error.fault (Unit {0}) D.tracks result track.old track.new }
 {
     match shown {
         Shown::Enum(name, variant) => {
@@ -51,9 +53,10 @@ fn read_variant<D: Deserializer>(
     name: D,
     track: &mut Track,
 ) -> Result<Data, D::Error>
-    ensures { Gives D.Error.fault D.tracks data_view result
-        (enum_of (variants_in variants.now) (offer.variant (D.source name) (D.choice variant.old).payload))
+    ensures value { Gives D.Error.fault D.tracks data_view result
+        (enum_of (variants_in variants.now) (offer.variant (D.source name) (D.choice variant.old)))
         track.old track.new }
+    ensures keeps { Keeps D.Error.fault (Unit {0}) D.tracks result track.old track.new }
 {
     let place = read_name(alloc, variants, variant, name, track)?;
     let payload = read_payload::<D>(alloc, &variants.shapes()[place], variant, track)?;
@@ -71,10 +74,11 @@ fn read_name<D: Deserializer>(
     ensures value { Gives D.Error.fault D.tracks (λ place. place) result
         (bare (variant_place (variants_in variants.now) (offer_of (D.source name) identifier)))
         track.old track.new }
-    ensures caught { D.tracks ≡ true → OnOk result ((D.choice variant.new).caught ≡ key_text (offer_of (D.source name) identifier)) }
-    ensures payload { OnOk result ((D.choice variant.new).payload ≡ (D.choice variant.old).payload) }
+    ensures caught { D.tracks ≡ true → OnOk result (D.name_text variant.new ≡ offer_text (offer_of (D.source name) identifier)) }
+    ensures choice { D.choice variant.new ≡ D.choice variant.old }
     ensures within { IfOk result (λ place. place < length (variants_in variants.now)) }
     ensures shaped { IfOk result (λ place. place < length variants.now.shapes.items) }
+    ensures keeps { Keeps D.Error.fault (Unit {0}) D.tracks result track.old track.new }
 {
     let before = track.holds();
     let place = visit_name(alloc, variants, variant, name);
@@ -91,9 +95,9 @@ fn visit_name<D: Deserializer>(
 ) -> Result<usize, D::Error>
     ensures value { Answers D.Error.fault (λ place. place) result
         (variant_place (variants_in variants.now) (offer_of (D.source name) identifier)) }
-    ensures caught { D.tracks ≡ true → Catches D.Error.fault result (D.choice variant.new).caught
-        (key_text (offer_of (D.source name) identifier)) }
-    ensures choice { D.choice variant.new ≡ name_caught (D.choice variant.new).caught (D.choice variant.old) }
+    ensures caught { D.tracks ≡ true → Catches D.Error.fault result
+        (offer_text (offer_of (D.source name) identifier)) (D.name_text variant.new) }
+    ensures choice { D.choice variant.new ≡ D.choice variant.old }
 {
     let shown = D::show_name(variant, name, Hint::Identifier)?;
     visit_place(alloc, variants, shown)
@@ -142,10 +146,11 @@ fn read_payload<D: Deserializer>(
     variant: &mut D::Variant,
     track: &mut Track,
 ) -> Result<Payload, D::Error>
-    ensures { (segment : Segment) → (D.tracks ≡ true → segment ≡ variant_segment (D.choice variant.old).caught)
+    ensures value { (segment : Segment) → (D.tracks ≡ true → segment ≡ variant_segment (D.name_text variant.old))
         → Gives D.Error.fault D.tracks payload_view result
-        (under segment (visited_payload (variant_shape_view shape.now) (D.choice variant.old).payload))
+        (under segment (visited_payload (variant_shape_view shape.now) (D.choice variant.old)))
         track.old track.new }
+    ensures keeps { Keeps D.Error.fault (Unit {0}) D.tracks result track.old track.new }
 {
     let before = track.holds();
     let payload = take_payload::<D>(alloc, shape, variant, track);
@@ -162,9 +167,10 @@ fn take_payload<D: Deserializer>(
     track: &mut Track,
 ) -> Result<Payload, D::Error>
     ensures value { Gives D.Error.fault D.tracks payload_view result
-        (visited_payload (variant_shape_view shape.now) (D.choice variant.old).payload)
+        (visited_payload (variant_shape_view shape.now) (D.choice variant.old))
         track.old track.new }
-    ensures caught { (D.choice variant.new).caught ≡ (D.choice variant.old).caught }
+    ensures caught { D.name_text variant.new ≡ D.name_text variant.old }
+    ensures keeps { Keeps D.Error.fault (Unit {0}) D.tracks result track.old track.new }
 {
     match shape {
         VariantShape::Unit => {
@@ -188,9 +194,10 @@ fn take_newtype<D: Deserializer>(
     track: &mut Track,
 ) -> Result<Payload, D::Error>
     ensures value { Gives D.Error.fault D.tracks payload_view result
-        (newtype_payload_of (first (shape_view inner.now)) ((D.choice variant.old).payload wanted.newtype))
+        (newtype_payload_of (first (shape_view inner.now)) (D.choice variant.old wanted.newtype))
         track.old track.new }
-    ensures caught { (D.choice variant.new).caught ≡ (D.choice variant.old).caught }
+    ensures caught { D.name_text variant.new ≡ D.name_text variant.old }
+    ensures keeps { Keeps D.Error.fault (Unit {0}) D.tracks result track.old track.new }
 {
     let d = D::newtype_variant(alloc, variant)?;
     let value = read(alloc, inner, d, track)?;
@@ -209,9 +216,10 @@ fn take_tuple<D: Deserializer>(
     track: &mut Track,
 ) -> Result<Payload, D::Error>
     ensures value { Gives D.Error.fault D.tracks payload_view result
-        (tuple_payload_of (readers_of shapes.now) ((D.choice variant.old).payload (wanted.tuple (length shapes.now))))
+        (tuple_payload_of (readers_of shapes.now) (D.choice variant.old (wanted.tuple (length shapes.now))))
         track.old track.new }
-    ensures caught { (D.choice variant.new).caught ≡ (D.choice variant.old).caught }
+    ensures caught { D.name_text variant.new ≡ D.name_text variant.old }
+    ensures keeps { Keeps D.Error.fault (Unit {0}) D.tracks result track.old track.new }
 {
     let seq = D::tuple_variant(alloc, variant, shapes.len())?;
     let items = read_elements::<D>(alloc, shapes, true, seq, "tuple variant", track)?;
@@ -229,9 +237,10 @@ fn take_struct<D: Deserializer>(
     track: &mut Track,
 ) -> Result<Payload, D::Error>
     ensures value { Gives D.Error.fault D.tracks payload_view result
-        (struct_payload_of strict (fields_in fields.now) ((D.choice variant.old).payload (wanted.struct fields.now.names)))
+        (struct_payload_of strict (fields_in fields.now) (D.choice variant.old (wanted.struct fields.now.names)))
         track.old track.new }
-    ensures caught { (D.choice variant.new).caught ≡ (D.choice variant.old).caught }
+    ensures caught { D.name_text variant.new ≡ D.name_text variant.old }
+    ensures keeps { Keeps D.Error.fault (Unit {0}) D.tracks result track.old track.new }
 {
     let mut map = D::struct_variant(alloc, variant, fields.names())?;
     let items = read_named::<D>(alloc, fields, strict, &mut map, track)?;

@@ -3,6 +3,7 @@ ghost use Rattle.std.specs.Prelude.{◌≡◌};
 ghost use Rattle.data_core.specs.Ask.{ask};
 ghost use Rattle.data_core.specs.Show.{shown_offer, Begins};
 ghost use Rattle.data_core.specs.Outcome.{Gives};
+ghost use Rattle.data_core.specs.Tracking.{Keeps};
 ghost use Rattle.shape_read.specs.First.{asks, visited, first, option_of, newtype_of};
 ghost use Rattle.shape.specs.View.{shape_view, data_view};
 
@@ -62,8 +63,9 @@ pub fn read<D: Deserializer>(
     d: D,
     track: &mut Track,
 ) -> Result<Data, D::Error>
-    ensures { Gives D.Error.fault D.tracks data_view result
+    ensures value { Gives D.Error.fault D.tracks data_view result
         (first (shape_view shape.now) (D.source d)) track.old track.new }
+    ensures keeps { Keeps D.Error.fault (Unit {0}) D.tracks result track.old track.new }
 {
     let shown = d.show(hint(shape))?;
     visit(alloc, shape, shown, track)
@@ -79,10 +81,11 @@ pub fn visit<D: Deserializer>(
     shown: Shown<D>,
     track: &mut Track,
 ) -> Result<Data, D::Error>
-    requires { Begins D.sequence D.table shown }
-    ensures { Gives D.Error.fault D.tracks data_view result
+    requires { Begins D.sequence D.table D.key_text D.name_text shown }
+    ensures value { Gives D.Error.fault D.tracks data_view result
         (visited (shape_view shape.now) (shown_offer D.Text.text D.Bytes.bytes D.source D.sequence D.table D.choice shown))
         track.old track.new }
+    ensures keeps { Keeps D.Error.fault (Unit {0}) D.tracks result track.old track.new }
 {
     match shape {
         Shape::Bool => visit_bool(alloc, shown),
@@ -121,9 +124,10 @@ fn visit_option<D: Deserializer>(
     shown: Shown<D>,
     track: &mut Track,
 ) -> Result<Data, D::Error>
-    ensures { Gives D.Error.fault D.tracks data_view result
+    ensures value { Gives D.Error.fault D.tracks data_view result
         (option_of (first (shape_view inner.now)) (shown_offer D.Text.text D.Bytes.bytes D.source D.sequence D.table D.choice shown))
         track.old track.new }
+    ensures keeps { Keeps D.Error.fault (Unit {0}) D.tracks result track.old track.new }
 {
     match shown {
         Shown::Scalar(Scalar::None | Scalar::Unit) => Ok(Data::Option(None)),
@@ -145,9 +149,10 @@ fn visit_newtype<D: Deserializer>(
     shown: Shown<D>,
     track: &mut Track,
 ) -> Result<Data, D::Error>
-    ensures { Gives D.Error.fault D.tracks data_view result
+    ensures value { Gives D.Error.fault D.tracks data_view result
         (newtype_of (first (shape_view inner.now)) (shown_offer D.Text.text D.Bytes.bytes D.source D.sequence D.table D.choice shown))
         track.old track.new }
+    ensures keeps { Keeps D.Error.fault (Unit {0}) D.tracks result track.old track.new }
 {
     match shown {
         Shown::NewtypeStruct(d) => {

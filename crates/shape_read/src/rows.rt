@@ -1,14 +1,16 @@
 //! Readers of sequences and of rows, which have a shape for each element.
-ghost use Rattle.std.specs.Prelude.{◌≡◌, length, OnOk, option_map};
+ghost use Rattle.std.specs.Prelude.{◌≡◌, OnOk, option_map};
 ghost use Rattle.data_core.specs.Show.{shown_offer, Begins};
-ghost use Rattle.data_core.specs.Sequence.{rest_of, place_after};
+ghost use Rattle.data_core.specs.Sequence.{one_taken};
+ghost use Rattle.data_core.specs.Took.{Took};
+ghost use Rattle.data_core.specs.Tracking.{Keeps};
 ghost use Rattle.data_core.specs.Outcome.{Gives};
 ghost use Rattle.data_std.specs.Ignored.{ignored_rest};
 ghost use Rattle.shape_read.specs.Parts.{each, row_of, refuse_rest, rest_of_row};
 ghost use Rattle.shape_read.specs.First.{first, seq_of, tuple_of};
 ghost use Rattle.shape.specs.View.{shape_view, data_view};
 ghost use Rattle.shape_read.specs.Readers.{readers_of};
-ghost use Rattle.shape_read.specs.Steps.{next_of, one_each, beyond, all_viewed};
+ghost use Rattle.shape_read.specs.Steps.{next_of, one_each, row_taken, all_viewed};
 
 use crate::reader::read;
 use data_core::{DeError, Deserializer, Shown, Track, refused};
@@ -24,10 +26,11 @@ pub fn visit_seq<D: Deserializer>(
     shown: Shown<D>,
     track: &mut Track,
 ) -> Result<Data, D::Error>
-    requires { Begins D.sequence D.table shown }
-    ensures { Gives D.Error.fault D.tracks data_view result
+    requires { Begins D.sequence D.table D.key_text D.name_text shown }
+    ensures value { Gives D.Error.fault D.tracks data_view result
         (seq_of (first (shape_view inner.now)) (shown_offer D.Text.text D.Bytes.bytes D.source D.sequence D.table D.choice shown))
         track.old track.new }
+    ensures keeps { Keeps D.Error.fault (Unit {0}) D.tracks result track.old track.new }
 {
     match shown {
         Shown::Seq(seq) => {
@@ -51,10 +54,11 @@ pub fn visit_tuple<D: Deserializer>(
     expected: &str,
     track: &mut Track,
 ) -> Result<Data, D::Error>
-    requires { Begins D.sequence D.table shown }
-    ensures { Gives D.Error.fault D.tracks data_view result
+    requires { Begins D.sequence D.table D.key_text D.name_text shown }
+    ensures value { Gives D.Error.fault D.tracks data_view result
         (tuple_of whole (readers_of shapes.now) (shown_offer D.Text.text D.Bytes.bytes D.source D.sequence D.table D.choice shown))
         track.old track.new }
+    ensures keeps { Keeps D.Error.fault (Unit {0}) D.tracks result track.old track.new }
 {
     match shown {
         Shown::Seq(seq) => {
@@ -77,9 +81,10 @@ pub fn read_elements<D: Deserializer>(
     track: &mut Track,
 ) -> Result<Vec<Data>, D::Error>
     requires { (D.sequence seq).taken ≡ 0 }
-    ensures { Gives D.Error.fault D.tracks all_viewed result
+    ensures value { Gives D.Error.fault D.tracks all_viewed result
         (row_of (rest_of_row whole (D.sequence seq).checks) (readers_of shapes.now) 0 (D.sequence seq).left)
         track.old track.new }
+    ensures keeps { Keeps D.Error.fault (Unit {0}) D.tracks result track.old track.new }
 {
     if whole {
         read_whole::<D>(alloc, shapes, seq, expected, track)
@@ -98,9 +103,10 @@ fn read_whole<D: Deserializer>(
     track: &mut Track,
 ) -> Result<Vec<Data>, D::Error>
     requires { (D.sequence seq).taken ≡ 0 }
-    ensures { Gives D.Error.fault D.tracks all_viewed result
+    ensures value { Gives D.Error.fault D.tracks all_viewed result
         (row_of (refuse_rest (D.sequence seq).checks) (readers_of shapes.now) 0 (D.sequence seq).left)
         track.old track.new }
+    ensures keeps { Keeps D.Error.fault (Unit {0}) D.tracks result track.old track.new }
 {
     let mut seq = seq;
     let items = read_row::<D>(alloc, shapes, &mut seq, expected, track)?;
@@ -118,9 +124,10 @@ fn read_prefix<D: Deserializer>(
     track: &mut Track,
 ) -> Result<Vec<Data>, D::Error>
     requires { (D.sequence seq).taken ≡ 0 }
-    ensures { Gives D.Error.fault D.tracks all_viewed result
+    ensures value { Gives D.Error.fault D.tracks all_viewed result
         (row_of ignored_rest (readers_of shapes.now) 0 (D.sequence seq).left)
         track.old track.new }
+    ensures keeps { Keeps D.Error.fault (Unit {0}) D.tracks result track.old track.new }
 {
     let mut seq = seq;
     let items = read_row::<D>(alloc, shapes, &mut seq, expected, track)?;
@@ -136,9 +143,10 @@ fn read_each<D: Deserializer>(
     seq: &mut D::Seq,
     track: &mut Track,
 ) -> Result<Vec<Data>, D::Error>
-    ensures { Gives D.Error.fault D.tracks all_viewed result
+    ensures value { Gives D.Error.fault D.tracks all_viewed result
         (each (first (shape_view inner.now)) (D.sequence seq.old).taken (D.sequence seq.old).left)
         track.old track.new }
+    ensures keeps { Keeps D.Error.fault (Unit {0}) D.tracks result track.old track.new }
 {
     let mut items = Vec::new(alloc);
     'reads: while let Some(item) = read_element::<D>(alloc, inner, seq, track)? {
@@ -162,9 +170,8 @@ fn read_row<D: Deserializer>(
     ensures value { Gives D.Error.fault D.tracks all_viewed result
         (one_each (readers_of shapes.now) 0 (D.sequence seq.old).left)
         track.old track.new }
-    ensures left { OnOk result ((D.sequence seq.new).left ≡ beyond (readers_of shapes.now) (D.sequence seq.old).left) }
-    ensures taken { OnOk result ((D.sequence seq.new).taken ≡ length shapes.now) }
-    ensures checks { OnOk result ((D.sequence seq.new).checks ≡ (D.sequence seq.old).checks) }
+    ensures took { OnOk result (D.sequence seq.new ≡ row_taken (readers_of shapes.now) (D.sequence seq.old)) }
+    ensures keeps { Keeps D.Error.fault (Unit {0}) D.tracks result track.old track.new }
 {
     let mut items = Vec::new(alloc);
     'reads: for shape in shapes {
@@ -189,10 +196,8 @@ fn read_element<D: Deserializer>(
     ensures value { Gives D.Error.fault D.tracks (option_map data_view) result
         (next_of (first (shape_view shape.now)) (D.sequence seq.old).taken (D.sequence seq.old).left)
         track.old track.new }
-    ensures left { OnOk result ((D.sequence seq.new).left ≡ rest_of (D.sequence seq.old).left) }
-    ensures taken { OnOk result ((D.sequence seq.new).taken
-        ≡ place_after (D.sequence seq.old).left (D.sequence seq.old).taken) }
-    ensures checks { OnOk result ((D.sequence seq.new).checks ≡ (D.sequence seq.old).checks) }
+    ensures took { Took D.Error.fault result (D.sequence seq.old) (one_taken (D.sequence seq.old)) (D.sequence seq.new) }
+    ensures keeps { Keeps D.Error.fault (Unit {0}) D.tracks result track.old track.new }
 {
     let Some(element) = D::next_element(seq)? else {
         return Ok(None);

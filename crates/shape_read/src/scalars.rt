@@ -1,9 +1,10 @@
 //! Readers of scalars.
-ghost use Rattle.std.specs.Prelude.{◌≡◌, ◌<◌, ◌^◌};
+ghost use Rattle.std.specs.Prelude.{◌≡◌, ◌<◌, ◌^◌, IfErr};
 ghost use Rattle.data_core.specs.Source.{scalar};
 ghost use Rattle.data_core.specs.Source as offer;
 ghost use Rattle.data_core.specs.Show.{shown_offer};
 ghost use Rattle.data_core.specs.Outcome.{Answers};
+ghost use Rattle.data_core.specs.Refused.{IsSeenOf};
 ghost use Rattle.shape_read.specs.Scalars.{boolean_of, unsigned_of, signed_of, within, character_of, text_of, bytes_of, unit_of};
 ghost use Rattle.shape_read.specs.Integer.{ShowsInteger};
 ghost use Rattle.shape.specs.View.{data_view};
@@ -16,8 +17,9 @@ use std::alloc::Global;
 
 /// Takes a boolean. A refusal names `bool` as what was expected.
 pub fn visit_bool<D: Deserializer>(alloc: Global, shown: Shown<D>) -> Result<Data, D::Error>
-    ensures { Answers D.Error.fault data_view result
+    ensures answers { Answers D.Error.fault data_view result
         (boolean_of (shown_offer D.Text.text D.Bytes.bytes D.source D.sequence D.table D.choice shown)) }
+    ensures sees { IfErr result (λ e. IsSeenOf (D.Error.saw e) (shown_offer D.Text.text D.Bytes.bytes D.source D.sequence D.table D.choice shown)) }
 {
     match shown {
         Shown::Scalar(Scalar::Bool(b)) => Ok(Data::Bool(b)),
@@ -59,8 +61,9 @@ pub fn visit_unsigned<D: Deserializer>(
     greatest: u64,
     expected: &str,
 ) -> Result<Data, D::Error>
-    ensures { Answers D.Error.fault data_view result
+    ensures answers { Answers D.Error.fault data_view result
         (unsigned_of greatest (shown_offer D.Text.text D.Bytes.bytes D.source D.sequence D.table D.choice shown)) }
+    ensures sees { IfErr result (λ e. IsSeenOf (D.Error.saw e) (shown_offer D.Text.text D.Bytes.bytes D.source D.sequence D.table D.choice shown)) }
 {
     match shown_integer(&shown) {
         Some(Integer::Unsigned(n)) => unsigned::<D>(alloc, n, greatest, expected),
@@ -76,7 +79,8 @@ fn unsigned<D: Deserializer>(
     greatest: u64,
     expected: &str,
 ) -> Result<Data, D::Error>
-    ensures { Answers D.Error.fault data_view result (unsigned_of greatest (scalar (offer.unsigned n))) }
+    ensures answers { Answers D.Error.fault data_view result (unsigned_of greatest (scalar (offer.unsigned offer.w64 n))) }
+    ensures sees { IfErr result (λ e. IsSeenOf (D.Error.saw e) (scalar (offer.unsigned offer.w64 n))) }
 {
     if n <= greatest {
         Ok(Data::Unsigned(n))
@@ -92,7 +96,8 @@ fn to_unsigned<D: Deserializer>(
     greatest: u64,
     expected: &str,
 ) -> Result<Data, D::Error>
-    ensures { Answers D.Error.fault data_view result (unsigned_of greatest (scalar (offer.signed n))) }
+    ensures answers { Answers D.Error.fault data_view result (unsigned_of greatest (scalar (offer.signed offer.w64 n))) }
+    ensures sees { IfErr result (λ e. IsSeenOf (D.Error.saw e) (scalar (offer.signed offer.w64 n))) }
 {
     match u64::try_from(n) {
         Ok(m) if m <= greatest => Ok(Data::Unsigned(m)),
@@ -109,8 +114,9 @@ pub fn visit_signed<D: Deserializer>(
     expected: &str,
 ) -> Result<Data, D::Error>
     requires { greatest < 2 ^ 63 }
-    ensures { Answers D.Error.fault data_view result
+    ensures answers { Answers D.Error.fault data_view result
         (signed_of greatest (shown_offer D.Text.text D.Bytes.bytes D.source D.sequence D.table D.choice shown)) }
+    ensures sees { IfErr result (λ e. IsSeenOf (D.Error.saw e) (shown_offer D.Text.text D.Bytes.bytes D.source D.sequence D.table D.choice shown)) }
 {
     match shown_integer(&shown) {
         Some(Integer::Unsigned(n)) => to_signed::<D>(alloc, n, greatest, expected),
@@ -126,7 +132,8 @@ fn signed<D: Deserializer>(
     greatest: u64,
     expected: &str,
 ) -> Result<Data, D::Error>
-    ensures { Answers D.Error.fault data_view result (signed_of greatest (scalar (offer.signed n))) }
+    ensures answers { Answers D.Error.fault data_view result (signed_of greatest (scalar (offer.signed offer.w64 n))) }
+    ensures sees { IfErr result (λ e. IsSeenOf (D.Error.saw e) (scalar (offer.signed offer.w64 n))) }
 {
     if is_within(n, greatest) {
         Ok(Data::Signed(n))
@@ -154,7 +161,8 @@ fn to_signed<D: Deserializer>(
     expected: &str,
 ) -> Result<Data, D::Error>
     requires { greatest < 2 ^ 63 }
-    ensures { Answers D.Error.fault data_view result (signed_of greatest (scalar (offer.unsigned n))) }
+    ensures answers { Answers D.Error.fault data_view result (signed_of greatest (scalar (offer.unsigned offer.w64 n))) }
+    ensures sees { IfErr result (λ e. IsSeenOf (D.Error.saw e) (scalar (offer.unsigned offer.w64 n))) }
 {
     if n <= greatest {
         Ok(Data::Signed(n as i64))
@@ -165,8 +173,9 @@ fn to_signed<D: Deserializer>(
 
 /// Takes a character, or a text of exactly one. A refusal names `char` as what was expected.
 pub fn visit_char<D: Deserializer>(alloc: Global, shown: Shown<D>) -> Result<Data, D::Error>
-    ensures { Answers D.Error.fault data_view result
+    ensures answers { Answers D.Error.fault data_view result
         (character_of (shown_offer D.Text.text D.Bytes.bytes D.source D.sequence D.table D.choice shown)) }
+    ensures sees { IfErr result (λ e. IsSeenOf (D.Error.saw e) (shown_offer D.Text.text D.Bytes.bytes D.source D.sequence D.table D.choice shown)) }
 {
     match shown {
         Shown::Scalar(Scalar::Char(c)) => Ok(Data::Char(c)),
@@ -177,7 +186,8 @@ pub fn visit_char<D: Deserializer>(alloc: Global, shown: Shown<D>) -> Result<Dat
 
 // The character of a text of exactly one.
 fn char_of_text<D: Deserializer>(alloc: Global, text: &str) -> Result<Data, D::Error>
-    ensures { Answers D.Error.fault data_view result (character_of (scalar (offer.text text.now))) }
+    ensures answers { Answers D.Error.fault data_view result (character_of (scalar (offer.text text.now))) }
+    ensures sees { IfErr result (λ e. IsSeenOf (D.Error.saw e) (scalar (offer.text text.now))) }
 {
     match only_char(text) {
         Some(c) => Ok(Data::Char(c)),
@@ -217,7 +227,8 @@ fn text_of_char<D: Deserializer>(alloc: Global, c: char) -> Result<Data, D::Erro
 
 // Bytes as the text that they spell. They are moved.
 fn text_of_bytes<D: Deserializer>(alloc: Global, bytes: Vec<u8>) -> Result<Data, D::Error>
-    ensures { Answers D.Error.fault data_view result (text_of (scalar (offer.bytes bytes.items))) }
+    ensures answers { Answers D.Error.fault data_view result (text_of (scalar (offer.bytes bytes.items))) }
+    ensures sees { IfErr result (λ e. IsSeenOf (D.Error.saw e) (scalar (offer.bytes bytes.items))) }
 {
     match String::from_utf8(bytes) {
         Ok(text) => Ok(Data::Text(Text::from_string(text))),
@@ -248,8 +259,9 @@ pub fn visit_unit<D: Deserializer>(
     shown: Shown<D>,
     expected: &str,
 ) -> Result<Data, D::Error>
-    ensures { Answers D.Error.fault data_view result
+    ensures answers { Answers D.Error.fault data_view result
         (unit_of (shown_offer D.Text.text D.Bytes.bytes D.source D.sequence D.table D.choice shown)) }
+    ensures sees { IfErr result (λ e. IsSeenOf (D.Error.saw e) (shown_offer D.Text.text D.Bytes.bytes D.source D.sequence D.table D.choice shown)) }
 {
     match shown {
         Shown::Scalar(Scalar::Unit) => Ok(Data::Unit),

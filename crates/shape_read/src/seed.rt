@@ -1,9 +1,10 @@
 //! A shape as a reader.
 ghost use Rattle.std.specs.Prelude.{◌≡◌};
+ghost use Rattle.data_core.specs.Outcome.{IsTold};
+ghost use Rattle.data_core.specs.Tracking.{clear};
 ghost use Rattle.shape_read.specs.First.{asks, visited};
 ghost use Rattle.shape.specs.View.{shape_view, data_view};
-ghost use Rattle.data_core.specs.Reads.{IsOutcome};
-ghost use Rattle.shape_read.specs.Refusals.{visited_refused};
+ghost use Rattle.shape_read.specs.Refusals.{passes};
 
 use crate::reader::{hint, visit};
 use data_core::{DeserializeSeed, Deserializer, Hint, Shown, Track};
@@ -17,11 +18,13 @@ pub struct ShapeSeed<'s> {
 }
 
 impl<'s> ShapeSeed<'s> {
-    ghost use Rattle.shape_read.specs.ShapeSeed.{shape_of};
+    ghost use Rattle.shape_read.specs.ShapeSeed.{shape_of, shape_reads};
 
     /// A reader of the shape. Takes no memory.
+    #[tactic(auto, using(crate::proofs::Seeds::told))]
     pub fn new(shape: &'s Shape) -> ShapeSeed<'s>
-        ensures { shape_of result ≡ shape.entry.now }
+        ensures shape { shape_of result ≡ shape.entry.now }
+        ensures told { IsTold data_view (visited (shape_view shape.entry.now)) (shape_reads result) }
     {
         ShapeSeed { shape }
     }
@@ -30,11 +33,17 @@ impl<'s> ShapeSeed<'s> {
 impl<'s> DeserializeSeed for ShapeSeed<'s> {
     type Value = Data;
 
-    ghost use Rattle.shape_read.specs.ShapeSeed.{shape_of};
+    ghost use Rattle.shape_read.specs.ShapeSeed.{shape_of, shape_reads};
 
     ghost asks = { λ s. asks (shape_view (shape_of s)) };
 
-    ghost reads = { λ s offer outcome. IsOutcome data_view (visited (shape_view (shape_of s)) offer) outcome };
+    ghost reads = { λ s. shape_reads s };
+
+    ghost quiet = { Unit {0} };
+
+    ghost placed = { Unit {0} };
+
+    ghost leaves = { λ _ _ now. now ≡ clear };
 
     fn hint(&self) -> Hint<'_> {
         hint(self.shape)
@@ -50,5 +59,5 @@ impl<'s> DeserializeSeed for ShapeSeed<'s> {
         visit(alloc, self.shape, shown, track)
     }
 
-    ghost passes_refusals = { λ s f. visited_refused (shape_view (shape_of s)) f };
+    ghost passes_refusals = { λ s f. passes (shape_view (shape_of s)) f };
 }

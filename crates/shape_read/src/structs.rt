@@ -2,11 +2,12 @@
 ghost use Rattle.std.specs.Prelude.{◌≡◌, ◌<◌, true, Some, None, OnOk, IfOk, IfSome, IsSome, length, replicate, slice_get};
 ghost use Rattle.data_core.specs.Ask.{identifier};
 ghost use Rattle.data_core.specs.Source.{Source, offer_of};
-ghost use Rattle.data_core.specs.Table.{Catches, key_text, with_caught, entry_segment, segment_of_key};
+ghost use Rattle.data_core.specs.Table.{Catches, offer_text, value_taken, entry_segment, segment_of_key};
 ghost use Rattle.data_core.specs.declared.path.Segment.{Segment};
 ghost use Rattle.data_core.specs.Fault.{IsCalled};
 ghost use Rattle.data_core.specs.declared.fault.Fault.TheVariants.{DuplicateField};
 ghost use Rattle.data_core.specs.Show.{shown_offer, Begins};
+ghost use Rattle.data_core.specs.Tracking.{Keeps};
 ghost use Rattle.data_core.specs.Outcome.{Answers, Gives};
 ghost use Rattle.data_std.specs.Ignored.{at_key};
 ghost use Rattle.shape_read.specs.Fields.{is_option, place_of, known, place_of_key, put_field, field_step, filled, completed, named};
@@ -36,11 +37,12 @@ pub fn visit_struct<D: Deserializer>(
     shown: Shown<D>,
     track: &mut Track,
 ) -> Result<Data, D::Error>
-    requires { Begins D.sequence D.table shown }
-    ensures { Gives D.Error.fault D.tracks data_view result
+    requires { Begins D.sequence D.table D.key_text D.name_text shown }
+    ensures value { Gives D.Error.fault D.tracks data_view result
         (struct_of whole strict (fields_in fields.now) (readers_of fields.now.shapes.items)
         (shown_offer D.Text.text D.Bytes.bytes D.source D.sequence D.table D.choice shown))
         track.old track.new }
+    ensures keeps { Keeps D.Error.fault (Unit {0}) D.tracks result track.old track.new }
 {
     match shown {
         Shown::Seq(seq) => {
@@ -67,8 +69,9 @@ pub fn read_named<D: Deserializer>(
     map: &mut D::Map,
     track: &mut Track,
 ) -> Result<Vec<Data>, D::Error>
-    ensures { Gives D.Error.fault D.tracks all_viewed result
+    ensures value { Gives D.Error.fault D.tracks all_viewed result
         (named strict (fields_in fields.now) (D.table map.old).left) track.old track.new }
+    ensures keeps { Keeps D.Error.fault (Unit {0}) D.tracks result track.old track.new }
 {
     let slots = read_fields::<D>(alloc, fields, strict, map, track)?;
     finish::<D>(alloc, fields, slots)
@@ -87,6 +90,7 @@ fn read_fields<D: Deserializer>(
         (each_entry (field_step strict (fields_in fields.now)) (replicate (length (fields_in fields.now)) None) (D.table map.old).left)
         track.old track.new }
     ensures slots { IfOk result (λ slots. length slots.items ≡ length (fields_in fields.now)) }
+    ensures keeps { Keeps D.Error.fault (Unit {0}) D.tracks result track.old track.new }
 {
     let Ok(mut slots) = empty_slots(alloc, fields.len()) else {
         return Err(D::Error::memory());
@@ -123,8 +127,9 @@ fn read_field<D: Deserializer>(
     requires slots { length slots.old.items ≡ length (fields_in fields.now) }
     ensures value { (v : Source) → (D.table map.old).waiting ≡ Some v → Gives D.Error.fault D.tracks (λ u. slots_view slots.new) result
         (field_step strict (fields_in fields.now) (slots_view slots.old) (D.source key) v) track.old track.new }
-    ensures left { OnOk result ((D.table map.new).left ≡ (D.table map.old).left) }
+    ensures took { OnOk result (D.table map.new ≡ value_taken (D.table map.old)) }
     ensures slots { length slots.new.items ≡ length slots.old.items }
+    ensures keeps { Keeps D.Error.fault (Unit {0}) D.tracks result track.old track.new }
 {
     let place = read_place(alloc, fields, strict, map, key, track)?;
     match place {
@@ -146,11 +151,12 @@ fn read_place<D: Deserializer>(
     ensures value { Gives D.Error.fault D.tracks (λ place. place) result
         (at_key (segment_of_key identifier (D.source key)) (place_of_key strict (fields_in fields.now) (offer_of (D.source key) identifier)))
         track.old track.new }
-    ensures caught { D.tracks ≡ true → OnOk result ((D.table map.new).caught ≡ key_text (offer_of (D.source key) identifier)) }
-    ensures table { OnOk result (D.table map.new ≡ with_caught (D.table map.new).caught (D.table map.old)) }
+    ensures caught { D.tracks ≡ true → OnOk result (D.key_text map.new ≡ offer_text (offer_of (D.source key) identifier)) }
+    ensures table { D.table map.new ≡ D.table map.old }
     ensures within { IfOk result (λ place. IfSome place (λ i. i < length (fields_in fields.now))) }
     ensures named { IfOk result (λ place. IfSome place (λ i. i < length fields.now.names)) }
     ensures shaped { IfOk result (λ place. IfSome place (λ i. i < length fields.now.shapes.items)) }
+    ensures keeps { Keeps D.Error.fault (Unit {0}) D.tracks result track.old track.new }
 {
     let before = track.holds();
     let place = visit_key(alloc, fields, strict, map, key);
@@ -167,9 +173,9 @@ fn visit_key<D: Deserializer>(
     key: D,
 ) -> Result<Option<usize>, D::Error>
     ensures value { Answers D.Error.fault (λ place. place) result (place_of_key strict (fields_in fields.now) (offer_of (D.source key) identifier)) }
-    ensures caught { D.tracks ≡ true → Catches D.Error.fault result (D.table map.new).caught
-        (key_text (offer_of (D.source key) identifier)) }
-    ensures table { D.table map.new ≡ with_caught (D.table map.new).caught (D.table map.old) }
+    ensures caught { D.tracks ≡ true → Catches D.Error.fault result
+        (offer_text (offer_of (D.source key) identifier)) (D.key_text map.new) }
+    ensures table { D.table map.new ≡ D.table map.old }
 {
     let shown = D::show_key(map, key, Hint::Identifier)?;
     visit_place(alloc, fields, strict, shown)
@@ -227,12 +233,13 @@ fn put<D: Deserializer>(
     requires named { place < length fields.now.names }
     requires shaped { place < length fields.now.shapes.items }
     requires slot { place < length slots.old.items }
-    ensures value { (segment : Segment) → (D.tracks ≡ true → segment ≡ entry_segment (D.table map.old).caught)
+    ensures value { (segment : Segment) → (D.tracks ≡ true → segment ≡ entry_segment (D.key_text map.old))
         → (v : Source) → (D.table map.old).waiting ≡ Some v → Gives D.Error.fault D.tracks (λ u. slots_view slots.new) result
         (put_field segment v (slots_view slots.old) place (slice_get (fields_in fields.now) place) (slice_get (slots_view slots.old) place))
         track.old track.new }
-    ensures left { OnOk result ((D.table map.new).left ≡ (D.table map.old).left) }
+    ensures took { OnOk result (D.table map.new ≡ value_taken (D.table map.old)) }
     ensures slots { length slots.new.items ≡ length slots.old.items }
+    ensures keeps { Keeps D.Error.fault (Unit {0}) D.tracks result track.old track.new }
 {
     if slots[place].is_some() {
         return Err(duplicate::<D>(alloc, fields, place));

@@ -20,6 +20,7 @@ fn fields_are_added_at_the_end(rt: HostRuntime) -> Result<(), Fail> {
     assert_eq!(rt; fields.len(), 2);
     assert_eq!(rt; fields.names().get(1), Some("b"));
     assert!(rt; matches!(fields.shapes(), [Shape::U8, Shape::U16]));
+    assert!(rt; matches!(fields.shape(1), Some(Shape::U16)));
     assert_eq!(rt; fields.find("b"), Some(1));
     Ok(())
 }

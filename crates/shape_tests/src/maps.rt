@@ -36,23 +36,6 @@ fn pairs_are_taken_by_rising_key(rt: HostRuntime) -> Result<(), Fail> {
     Ok(())
 }
 
-#[test]
-fn pairs_stand_by_rising_key(rt: HostRuntime) -> Result<(), Fail> {
-    let map = three(rt.alloc())?;
-    assert!(rt;
-        matches!(
-            map.as_slice(),
-            [
-                (Data::Unsigned(1), _),
-                (Data::Unsigned(2), _),
-                (Data::Unsigned(3), _)
-            ]
-        )
-    );
-    assert_eq!(rt; map.into_vec().len(), 3);
-    Ok(())
-}
-
 // How many pairs a `for` goes over.
 fn pairs_in(map: &DataMap) -> usize {
     let mut count = 0usize;

@@ -1,9 +1,9 @@
 //! Trees that are read by shapes.
 
-use crate::shapes::{field, newtype_variant, seq};
+use crate::shapes::{field, newtype_variant};
 use data_core::{DeserializeSeed, Text, Track};
 use data_items::Error;
-use serde_value::{Items, Value, ValueDeserializer, ValueMap};
+use serde_value::{Value, ValueDeserializer, ValueMap};
 use shape::{Data, Payload, Shape};
 use shape_read::ShapeSeed;
 use std::alloc::{AllocError, Global};
@@ -24,25 +24,6 @@ fn entry(alloc: Global, key: &str) -> Result<Value, AllocError> {
         Ok(_) => Ok(Value::Map(map)),
         Err(_) => Err(AllocError),
     }
-}
-
-// Whether a tree is read as a list of 1 and 2.
-fn is_one_and_two(alloc: Global, shape: &Shape, tree: Value) -> bool {
-    match read(alloc, shape, tree) {
-        Ok(Data::Seq(items)) => {
-            matches!(items.as_slice(), [Data::Unsigned(1), Data::Unsigned(2)])
-        }
-        _ => false,
-    }
-}
-
-#[test]
-fn a_sequence_is_read(rt: HostRuntime) -> Result<(), Fail> {
-    let shape = seq(rt.alloc(), Shape::U8)?;
-    let items = vec![in rt.alloc(); Value::U8(1), Value::U16(2)]?;
-    let tree = Value::Seq(Items::from_vec(items));
-    assert!(rt; is_one_and_two(rt.alloc(), &shape, tree));
-    Ok(())
 }
 
 // Whether a tree is read as a struct of 7.

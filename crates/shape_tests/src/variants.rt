@@ -33,6 +33,7 @@ fn variants_are_added_at_the_end(rt: HostRuntime) -> Result<(), Fail> {
             ]
         )
     );
+    assert!(rt; matches!(variants.shape(1), Some(VariantShape::Unit)));
     assert_eq!(rt; variants.find("A"), Some(0));
     assert_eq!(rt; variants.find("B"), Some(1));
     Ok(())

@@ -1,11 +1,12 @@
 -- A map with a value written over, and with a pair more: pairs of the code, whose keys and values are
 -- seen through views.
-use Rattle.std.proofs.Common.{◌≡◌, ℕ, suc, ◌+◌, ◌<◌, List, [], ◌∷◌, length, get_or, take, drop, set, map, Ordering, Some, None, refl, sym, ap, ◌∙◌}
+use Rattle.std.proofs.Common.{◌≡◌, ℕ, suc, ◌+◌, ◌<◌, List, [], ◌∷◌, length, get_or, take, drop, set, map, Ordering, Less, Equal, Greater, Some, None, refl, sym, ap, ◌∙◌}
 use Rattle.std.specs.List.{insert}
 use Rattle.std.specs.Ordering.{match_ordering, on}
 use Rattle.std.specs.Cmp.{IsTotalOrder}
 use Rattle.std.proofs.lemmas.List.{get_or-map, map-set, map-append, take-map, drop-map}
-use Rattle.sorted_pairs.specs.Pairs.{AllAbove, Rises, lookup, put, below, up_to}
+use Rattle.sorted_pairs.specs.Pairs.{AllAbove, Rises, lookup, put, put_all, below, up_to}
+use Rattle.sorted_pairs.proofs.Classes.{Rises-put_all}
 use Rattle.sorted_pairs.proofs.Places.{Rises-put, put_over, put_new, lookup_found, lookup_none}
 
 module _ {K V A B : Type 0} (f : K → A) (g : V → B) (order : A → A → Ordering) where
@@ -57,3 +58,25 @@ module _ {K V A B : Type 0} (f : K → A) (g : V → B) (order : A → A → Ord
 
     pub rises_insert : (v : V) → up_to (on f order) k xs ≡ i → Rises order (map view xs) → Rises order (map view (insert xs i (k, v)))
     rises_insert v u r = rw (insert_pair v u) (Rises-put order total (f k) (g v) (map view xs) r)
+
+module _ {K V A B : Type 0} (f : K → A) (g : V → B) (order : A → A → Ordering) where
+  abbrev seen : K × V → A × B
+  seen p = (f p.0, g p.1)
+
+  put_step : (o : Ordering) (k : K) (v : V) (p : K × V) (ps rest : List (K × V)) (rests : List (A × B)) → map seen rest ≡ rests
+      → map seen (match_ordering o ((k, v) ∷ p ∷ ps) ((p.0, v) ∷ ps) (p ∷ rest)) ≡ match_ordering o ((f k, g v) ∷ seen p ∷ map seen ps) ((f p.0, g v) ∷ map seen ps) (seen p ∷ rests)
+  put_step Less k v p ps rest rests e = refl
+  put_step Equal k v p ps rest rests e = refl
+  put_step Greater k v p ps rest rests e = ap (λ r. seen p ∷ r) e
+
+  pub put_of_views : (k : K) (v : V) (ps : List (K × V)) → map seen (put (on f order) k v ps) ≡ put order (f k) (g v) (map seen ps)
+  put_of_views k v [] = refl
+  put_of_views k v (p ∷ ps) = put_step (order (f k) (f p.0)) k v p ps (put (on f order) k v ps) (put order (f k) (g v) (map seen ps)) (put_of_views k v ps)
+
+  pub put_all_of_views : (qs ps : List (K × V)) → map seen (put_all (on f order) ps qs) ≡ put_all order (map seen ps) (map seen qs)
+  put_all_of_views [] ps = refl
+  put_all_of_views (q ∷ qs) ps =
+      put_all_of_views qs (put (on f order) q.0 q.1 ps) ∙ ap (λ rs. put_all order rs (map seen qs)) (put_of_views q.0 q.1 ps)
+
+  pub rises_put_all : IsTotalOrder order → (qs : List (K × V)) → Rises order (map seen (put_all (on f order) [] qs))
+  rises_put_all total qs = rw (put_all_of_views qs []) (Rises-put_all order total (map seen qs) [] tt)

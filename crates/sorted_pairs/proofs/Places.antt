@@ -1,59 +1,12 @@
 -- Where a key is among pairs by rising key.
-use Rattle.std.proofs.Common.{◌≡◌, ℕ, zero, suc, ◌+◌, ◌<◌, ◌≤◌, List, [], ◌∷◌, length, get_or, set, Option, None, Some, Ordering, Less, Equal, Greater, refl, ap, ◌∙◌, arith}
+use Rattle.std.proofs.Common.{◌≡◌, ℕ, zero, suc, ◌+◌, List, [], ◌∷◌, get_or, set, Option, None, Some, Ordering, Less, Equal, Greater, refl, ap, ◌∙◌, arith}
 use Rattle.std.specs.Ordering.{match_ordering, ordering_reverse}
 use Rattle.std.specs.Cmp.{IsTotalOrder}
 use Rattle.std.specs.List.{insert}
 use Rattle.sorted_pairs.specs.Pairs.{AllAbove, Rises, lookup, put, below, up_to}
 
-up_to_step : (o : Ordering) (i n : ℕ) → n ≤ i → match_ordering o 0 1 (suc n) ≤ suc i
-up_to_step Less i n h = omega arith
-up_to_step Equal i n h = omega arith
-up_to_step Greater i n h = omega arith
-
-order_step : (o : Ordering) (b u n : ℕ) → b ≤ u → u ≤ n → (match_ordering o 0 0 (suc b) ≤ match_ordering o 0 1 (suc u)) × (match_ordering o 0 1 (suc u) ≤ suc n)
-order_step Less b u n h k = (omega arith, omega arith)
-order_step Equal b u n h k = (omega arith, omega arith)
-order_step Greater b u n h k = (omega arith, omega arith)
-
 module _ {K : Type 0} (order : K → K → Ordering) (total : IsTotalOrder order) where
-  -- a key that is above a later pair's is above an earlier one's
-  over : (k q p : K) (o : Ordering) → order q p ≡ Less → order k p ≡ o → (o ≡ Less → ⊥) → order k q ≡ Greater
-  over k q p Less h e n = absurd (n refl)
-  over k q p Equal h e n = total.congr k p q e ∙ (total.antisymm p q ∙ ap ordering_reverse h)
-  over k q p Greater h e n =
-      total.antisymm k q ∙ ap ordering_reverse (total.trans q p k h (total.antisymm p k ∙ ap ordering_reverse e))
-
   module _ {V : Type 0} where
-    above_at : (k : K) (ps : List (K × V)) (i : ℕ) (p : K × V) → AllAbove order k ps → i < length ps → p ≡ get_or ps i p → order k p.0 ≡ Less
-    above_at k [] i p h n e = absurd (omega arith)
-    above_at k (q ∷ ps) zero p h n e = rw e h.0
-    above_at k (q ∷ ps) (suc i) p h n e = above_at k ps i p h.1 (omega arith) e
-
-    -- a probe at i, where k is lower
-    pub up_to-probe : (k : K) (ps : List (K × V)) (i : ℕ) (p : K × V) → i < length ps → p ≡ get_or ps i p → order k p.0 ≡ Less → up_to order k ps ≤ i
-    up_to-probe k [] i p n e h = absurd (omega arith)
-    up_to-probe k (q ∷ ps) zero p n e h = rw (← e, h) (omega arith)
-    up_to-probe k (q ∷ ps) (suc i) p n e h = up_to_step (order k q.0) i (up_to order k ps) (up_to-probe k ps i p (omega arith) e h)
-
-    -- a probe at i, where k is higher
-    pub below-probe : (k : K) (ps : List (K × V)) (i : ℕ) (p : K × V) → Rises order ps → i < length ps → p ≡ get_or ps i p → order k p.0 ≡ Greater → i + 1 ≤ below order k ps
-    below-probe k [] i p r n e h = absurd (omega arith)
-    below-probe k (q ∷ ps) zero p r n e h = rw (← e, h) (omega arith)
-    below-probe k (q ∷ ps) (suc i) p r n e h =
-        rw (over k q.0 p.0 Greater (above_at q.0 ps i p r.0 (omega arith) e) h (λ x. cc)) (omega (arith, below-probe k ps i p r.1 (omega arith) e h))
-
-    -- a probe at i, where k is
-    pub at-probe : (k : K) (ps : List (K × V)) (i : ℕ) (p : K × V) → Rises order ps → i < length ps → p ≡ get_or ps i p → order k p.0 ≡ Equal → (below order k ps ≡ i) × (up_to order k ps ≡ i + 1)
-    at-probe k [] i p r n e h = absurd (omega arith)
-    at-probe k (q ∷ ps) zero p r n e h = rw (← e, h) (refl, omega arith)
-    at-probe k (q ∷ ps) (suc i) p r n e h =
-        let w = at-probe k ps i p r.1 (omega arith) e h in
-        rw (over k q.0 p.0 Equal (above_at q.0 ps i p r.0 (omega arith) e) h (λ x. cc)) (omega arith, omega arith)
-
-    pub below≤up_to : (k : K) (ps : List (K × V)) → (below order k ps ≤ up_to order k ps) × (up_to order k ps ≤ length ps)
-    below≤up_to k [] = (omega arith, omega arith)
-    below≤up_to k (q ∷ ps) = let w = below≤up_to k ps in order_step (order k q.0) (below order k ps) (up_to order k ps) (length ps) w.0 w.1
-
     none_step : (o : Ordering) (v : V) (rest : Option V) (u b : ℕ) → match_ordering o 0 1 (suc u) ≡ match_ordering o 0 0 (suc b) → (u ≡ b → rest ≡ None) → match_ordering o None (Some v) rest ≡ None
     none_step Less v rest u b h f = refl
     none_step Equal v rest u b h f = absurd (omega arith)
@@ -106,7 +59,7 @@ module _ {K : Type 0} (order : K → K → Ordering) (total : IsTotalOrder order
           | Greater ↦ (a.0, AllAbove-put j k v ps h a.1)
         ]
 
-    AllAbove-lower : (j k : K) (ps : List (K × V)) → order j k ≡ Less → AllAbove order k ps → AllAbove order j ps
+    pub AllAbove-lower : (j k : K) (ps : List (K × V)) → order j k ≡ Less → AllAbove order k ps → AllAbove order j ps
     AllAbove-lower j k [] h a = tt
     AllAbove-lower j k (q ∷ ps) h a = (total.trans j k q.0 h a.0, AllAbove-lower j k ps h a.1)
 

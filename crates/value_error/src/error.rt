@@ -1,8 +1,10 @@
 //! The error of reading a tree.
 ghost use Rattle.std.specs.Prelude.{◌≡◌, None};
 ghost use Rattle.data_core.specs.Fault.{IsCalled};
-ghost use Rattle.data_core.specs.Unexpected.{kind_of, seen_of};
-ghost use Rattle.value_error.specs.ErrorView.{fault_of, SameFault};
+ghost use Rattle.data_core.specs.Unexpected.{IsSeenAs, kind_of, seen_of};
+ghost use Rattle.value_error.specs.ErrorView.{fault_of, saw_of, SameFault, SameSight};
+ghost use Rattle.value_error.specs.ErrorText.{shown_text};
+ghost use Rattle.value_error.specs.OfItems.{of_items};
 ghost use Rattle.value_error.specs.Report.{Reports};
 ghost use Rattle.value_error.specs.Report as report;
 
@@ -31,6 +33,7 @@ impl DeserializerError {
     /// stays one.
     pub fn to_error<E: DeError>(&self, alloc: Global) -> E
         ensures fault { SameFault (E.fault result) (fault_of self.now) }
+        ensures sees { SameSight (E.saw result) (saw_of self.now) }
         ensures memory { fault_of self.now ≡ None → E.fault result ≡ None }
     {
         match self {
@@ -59,6 +62,7 @@ impl DeserializerError {
     /// The same of an error that is moved: serde_value's `into_error`.
     pub fn into_error<E: DeError>(self, alloc: Global) -> E
         ensures fault { SameFault (E.fault result) (fault_of self) }
+        ensures sees { SameSight (E.saw result) (saw_of self) }
         ensures memory { fault_of self ≡ None → E.fault result ≡ None }
     {
         self.to_error(alloc)
@@ -67,6 +71,8 @@ impl DeserializerError {
 
 impl DeError for DeserializerError {
     ghost fault = { fault_of };
+
+    ghost saw = { saw_of };
 
     fn memory() -> DeserializerError {
         DeserializerError::Memory
@@ -83,7 +89,8 @@ impl DeError for DeserializerError {
     }
 
     fn invalid_type(alloc: Global, unexp: data_core::Unexpected<'_>, exp: &str) -> DeserializerError
-        ensures fault { IsCalled (fault_of result) (Fault.InvalidType (kind_of unexp.entry)) }
+        ensures called { IsCalled (fault_of result) (Fault.InvalidType (kind_of unexp.entry)) }
+        ensures sees { IsSeenAs (saw_of result) (seen_of unexp.entry) }
         ensures report { Reports result (report.invalid_type (seen_of unexp.entry) exp.now) }
     {
         match (Unexpected::from_core(alloc, unexp), Text::new(alloc, exp)) {
@@ -97,7 +104,8 @@ impl DeError for DeserializerError {
         unexp: data_core::Unexpected<'_>,
         exp: &str,
     ) -> DeserializerError
-        ensures fault { IsCalled (fault_of result) (Fault.InvalidValue (kind_of unexp.entry)) }
+        ensures called { IsCalled (fault_of result) (Fault.InvalidValue (kind_of unexp.entry)) }
+        ensures sees { IsSeenAs (saw_of result) (seen_of unexp.entry) }
         ensures report { Reports result (report.invalid_value (seen_of unexp.entry) exp.now) }
     {
         match (Unexpected::from_core(alloc, unexp), Text::new(alloc, exp)) {
@@ -175,8 +183,25 @@ impl DeError for DeserializerError {
     }
 }
 
+/// The text of serde's error, without its fault: serde_value's `From` of serde's `de::value::Error`.
+impl From<data_items::Error> for DeserializerError {
+    ghost from_gives = { λ error made. made ≡ of_items error };
+
+    fn from(error: data_items::Error) -> DeserializerError {
+        match error {
+            data_items::Error::Fault { cause, text } => {
+                drop(cause);
+                DeserializerError::Custom(text)
+            }
+            data_items::Error::Memory => DeserializerError::Memory,
+        }
+    }
+}
+
 /// The words of serde_value's `Display`, and `out of memory`.
 impl fmt::Display for DeserializerError {
+    ghost output = { shown_text };
+
     fn fmt<W: fmt::Write>(&self, f: &mut fmt::Formatter<W>) -> fmt::Result {
         match self {
             DeserializerError::Custom(msg) => f.write_str(msg.as_str()),

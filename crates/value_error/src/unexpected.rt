@@ -85,6 +85,10 @@ impl Unexpected {
 
 /// The text of what is lent.
 impl fmt::Display for Unexpected {
+    ghost use Rattle.data_core.specs.UnexpectedText.{seen_text};
+
+    ghost output = { λ u. seen_text (seen_of u) };
+
     fn fmt<W: fmt::Write>(&self, f: &mut fmt::Formatter<W>) -> fmt::Result {
         self.to_unexpected().fmt(f)
     }

@@ -27,18 +27,6 @@ fn next_number(elements: &mut ValueElements<DeserializerError>) -> Option<u8> {
     }
 }
 
-#[test]
-fn elements_are_taken_in_order(rt: HostRuntime) -> Result<(), Fail> {
-    let mut elements = elements(rt.alloc())?;
-    assert_eq!(rt; next_number(&mut elements), Some(1));
-    assert_eq!(rt; Tree::elements_left(&elements), Some(1));
-    assert_eq!(rt; Tree::elements_taken(&elements), 1);
-    assert_eq!(rt; next_number(&mut elements), Some(2));
-    assert_eq!(rt; next_number(&mut elements), None);
-    assert!(rt; Tree::end_seq(rt.alloc(), elements).is_ok());
-    Ok(())
-}
-
 // The end of a sequence of two elements, of which one was taken.
 fn end_of_elements(alloc: Global) -> Result<String, AllocError> {
     let mut elements = elements(alloc)?;
@@ -62,28 +50,6 @@ fn entries(alloc: Global) -> Result<ValueEntries<DeserializerError>, AllocError>
         Ok(Shown::Map(entries)) => Ok(entries),
         _ => Err(AllocError),
     }
-}
-
-// The number at which an entry stands that is next, where its value is a unit.
-fn next_key(entries: &mut ValueEntries<DeserializerError>) -> Option<u8> {
-    match Tree::next_key(entries) {
-        Ok(Some(key)) => match key.into_value() {
-            Value::U8(number) => Some(number),
-            _ => None,
-        },
-        _ => None,
-    }
-}
-
-#[test]
-fn entries_are_taken_by_rising_key(rt: HostRuntime) -> Result<(), Fail> {
-    let mut entries = entries(rt.alloc())?;
-    assert_eq!(rt; next_key(&mut entries), Some(1));
-    assert_eq!(rt; Tree::entries_left(&entries), Some(1));
-    assert_eq!(rt; next_key(&mut entries), Some(2));
-    assert_eq!(rt; next_key(&mut entries), None);
-    assert!(rt; Tree::end_map(rt.alloc(), entries).is_ok());
-    Ok(())
 }
 
 // Whether the value of the first entry is the unit.

@@ -98,3 +98,12 @@ fn a_duplicate_field_stays_one(rt: HostRuntime) -> Result<(), Fail> {
     let error = DeserializerError::DuplicateField(Text::new(alloc, "a")?);
     says(&rt, duplicate(alloc, error.into_error(alloc)), "a")
 }
+
+#[test]
+fn an_error_of_items_keeps_its_text(rt: HostRuntime) -> Result<(), Fail> {
+    let alloc = rt.alloc();
+    let custom = DeserializerError::from(data_items::Error::custom(alloc, "no"));
+    says(&rt, custom.to_string(alloc), "no")?;
+    let memory = DeserializerError::from(data_items::Error::memory());
+    says(&rt, memory.to_string(alloc), "out of memory")
+}

@@ -99,16 +99,3 @@ fn pairs_are_taken_from_both_ends(rt: HostRuntime) -> Result<(), Fail> {
     assert!(rt; pairs.next_back().is_none());
     Ok(())
 }
-
-#[test]
-fn pairs_stand_by_rising_key(rt: HostRuntime) -> Result<(), Fail> {
-    let map = three(rt.alloc())?;
-    assert!(rt;
-        matches!(
-            map.as_slice(),
-            [(Value::U16(5), _), (Value::U16(6), _), (Value::U16(7), _)]
-        )
-    );
-    assert_eq!(rt; map.into_vec().len(), 3);
-    Ok(())
-}

@@ -1,7 +1,7 @@
 //! Trees and their maps in order, their copies, and what they feed a hasher.
 
 use crate::rising::{TREES, rising};
-use crate::trees::{map, two_pairs};
+use crate::trees::two_pairs;
 use serde_value::{Items, Value, ValueMap};
 use std::alloc::{AllocError, Global};
 use std::cmp::Ordering;
@@ -23,31 +23,6 @@ fn trees_are_in_order(rt: HostRuntime) -> Result<(), Fail> {
             assert_eq!(rt; compared(rt.alloc(), i, j)?, i.cmp(&j), "{i} and {j}");
         }
     }
-    Ok(())
-}
-
-// Whether two trees compare alike by each of the other comparisons.
-fn is_below(first: &Value, second: &Value) -> bool {
-    first < second && first != second && first.partial_cmp(second) == Some(Ordering::Less)
-}
-
-#[test]
-fn trees_compare_by_each_operator(rt: HostRuntime) {
-    assert!(rt; is_below(&Value::U8(1), &Value::U8(2)));
-}
-
-// The same of two maps.
-fn is_map_below(first: &ValueMap, second: &ValueMap) -> bool {
-    first.cmp(second).is_lt()
-        && first != second
-        && first.partial_cmp(second) == Some(Ordering::Less)
-}
-
-#[test]
-fn maps_compare_by_each_operator(rt: HostRuntime) -> Result<(), Fail> {
-    let low = map(rt.alloc(), Value::U8(1), Value::Unit)?;
-    let high = two_pairs(rt.alloc())?;
-    assert!(rt; is_map_below(&low, &high));
     Ok(())
 }
 

@@ -1,5 +1,5 @@
 use Rattle.std.proofs.Common.{◌≡◌, [], length, drop, replicate, None}
-use Rattle.data_core.specs.Tracking.{clear}
+use Rattle.data_core.specs.Tracking.{Kept}
 use Rattle.data_core.specs.Source.{count, count_entries}
 use Rattle.shape_read.specs.Parts.{each, each_entry}
 use Rattle.shape_read.specs.First.{asks, first, pair_step}
@@ -16,7 +16,7 @@ invariant-rows::read_each-reads g l =
     let before = g.D.Deserializer.sequence l.fn.seq in
     let now = g.D.Deserializer.sequence l.seq in record {
       outcome : each read before.taken before.left ≡ front l.items.items (each read now.taken now.left);
-      clear : l.fn.track ≡ clear → l.track ≡ clear;
+      keeps : Kept (Unit {0}) l.fn.track l.track;
     }
 
 abbrev pub decreases-rows::read_each-reads : goal.decreases-rows::read_each-reads
@@ -28,11 +28,12 @@ invariant-rows::read_row-reads g l =
     let now = g.D.Deserializer.sequence l.seq in
     let reads = readers_of (drop l.shape-index l.shapes) in record {
       outcome : one_each (readers_of l.shapes) 0 before.left ≡ front l.items.items (one_each reads now.taken now.left);
-      clear : l.fn.track ≡ clear → l.track ≡ clear;
+      keeps : Kept (Unit {0}) l.fn.track l.track;
       items : length l.items.items ≡ l.shape-index;
       left : beyond (readers_of l.shapes) before.left ≡ beyond reads now.left;
       taken : now.taken ≡ l.shape-index;
       checks : now.checks ≡ before.checks;
+      tells : now.tells ≡ before.tells;
     }
 
 abbrev pub invariant-entries::read_entries-reads : goal.invariant-entries::read_entries-reads
@@ -41,7 +42,7 @@ invariant-entries::read_entries-reads g l =
     let rest = each_entry (pair_step (asks key) (first key) (first (shape_view l.shapes.value))) in
     let table = g.D.Deserializer.table in record {
       outcome : rest [] (table l.fn.map).left ≡ rest l.pairs (table l.map).left;
-      clear : l.fn.track ≡ clear → l.track ≡ clear;
+      keeps : Kept (Unit {0}) l.fn.track l.track;
     }
 
 abbrev pub decreases-entries::read_entries-reads : goal.decreases-entries::read_entries-reads
@@ -53,7 +54,7 @@ invariant-structs::read_fields-reads g l =
     let rest = each_entry (field_step l.strict fields) in
     let table = g.D.Deserializer.table in record {
       outcome : rest (replicate (length fields) None) (table l.fn.map).left ≡ rest (slots_view l.slots) (table l.map).left;
-      clear : l.fn.track ≡ clear → l.track ≡ clear;
+      keeps : Kept (Unit {0}) l.fn.track l.track;
       slots : length l.slots.items ≡ length fields;
     }
 

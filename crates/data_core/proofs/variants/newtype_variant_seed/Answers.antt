@@ -6,9 +6,9 @@ use Rattle.data_core.specs.Tracking.{left}
 use Rattle.data_core.proofs.Relations.{Among-under}
 use Rattle.data_core.proofs.variants.newtype_variant_seed.Goals as goal
 
-pub returns : goal.returns
-returns g c segment same =
+pub returns-clause-reads : goal.returns-clause-reads
+returns-clause-reads g c segment same =
     let de = g.D.Deserializer in
-    let own = variant_segment (de.choice c.args.variant.now).caught in
+    let own = variant_segment (de.name_text c.args.variant.now) in
     let on_way_out : c.leave_payload.new.track ≡ left de.tracks own c.holds-before.result (is_err c.read_inside-value.result) c.read_inside-value.new.track = search rules in
-    Among-under g.D.Error.DeError.fault de.tracks c.holds-before.result (IsInside (λ source. g.S.DeserializeSeed.reads c.args.seed (offer_of source (g.S.DeserializeSeed.asks c.args.seed))) ((de.choice c.args.variant.now).payload wanted.newtype)) own segment c.read_inside-value.result c.args.track.now c.read_inside-value.new.track c.leave_payload.new.track c.holds-before.ensures same c.read_inside-value.ensures.reads on_way_out
+    Among-under g.D.Error.DeError.fault g.S.DeserializeSeed.placed de.tracks c.holds-before.result (IsInside (λ source. g.S.DeserializeSeed.reads c.args.seed (offer_of source (g.S.DeserializeSeed.asks c.args.seed))) (de.choice c.args.variant.now wanted.newtype)) own segment c.read_inside-value.result c.args.track.now c.read_inside-value.new.track c.leave_payload.new.track c.holds-before.ensures same c.read_inside-value.ensures.reads on_way_out

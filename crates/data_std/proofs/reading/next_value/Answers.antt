@@ -13,6 +13,6 @@ returns-in-Ok-clause-reads g c segment same =
     let waiting = (de.table c.args.map.now).waiting in
     let reads = ReadsFrom (read.asks seed) (read.reads seed) in
     let all = ReadsFrom own.asks own.reads in
-    Among-within g.D.Error.DeError.fault de.tracks c.next_value_seed.result (IsValue segment reads waiting) (IsValue segment all waiting) c.args.track.now c.next_value_seed.new.track
+    Among-within g.D.Error.DeError.fault read.placed de.tracks c.next_value_seed.result (IsValue segment reads waiting) (IsValue segment all waiting) c.args.track.now c.next_value_seed.new.track
     (IsValue-within segment reads all waiting (λ s o h. c.in-Ok.ensures.reads (offer_of s own.asks) o (rw c.in-Ok.ensures.asks at h)))
     (c.next_value_seed.ensures.reads segment same)

@@ -1,6 +1,5 @@
 use Rattle.std.proofs.Common.{◌≡◌}
-use Rattle.data_core.specs.Tracking.{clear}
 use Rattle.hand_tests.proofs.events.entries.Given as goal
 
 abbrev pub invariant-pairs : goal.invariant-pairs
-invariant-pairs g l = l.fn.track ≡ clear → l.track ≡ clear
+invariant-pairs g l = l.track ≡ l.fn.track

@@ -9,6 +9,7 @@ use Rattle.std.proofs.Common.{false}
 
 pub returns : goal.returns
 returns g c =
-    let read : Among fault_of false c.deserialize.result (g.T.Deserialize.reads (offer_of (of_node (node_view c.args.self)) g.T.Deserialize.asks)) c.new-track.result c.deserialize.new.track =
-    rw (c.new-d.ensures) at c.deserialize.ensures in
-    reads_among false c.deserialize.result _ c.new-track.result c.deserialize.new.track read
+    let placed = g.T.Seed.DeserializeSeed.placed in
+    let read : Among fault_of placed false c.deserialize.result (g.T.Deserialize.reads (offer_of (of_node (node_view c.args.self)) g.T.Deserialize.asks)) c.new-track.result c.deserialize.new.track =
+    rw (c.new-d.ensures) at c.deserialize.ensures.reads in
+    reads_among placed false c.deserialize.result _ c.new-track.result c.deserialize.new.track read
