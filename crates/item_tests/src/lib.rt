@@ -1,4 +1,4 @@
-//! Deserializers over items, pairs and texts that are at hand, as tests.
+//! Deserializers over items and pairs that are at hand, as tests.
 #![tactic(auto)]
 
 #[cfg(test)]
@@ -13,7 +13,3 @@ mod ignored;
 mod maps;
 #[cfg(test)]
 mod parts;
-#[cfg(test)]
-mod plain;
-#[cfg(test)]
-mod strings;
